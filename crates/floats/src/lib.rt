@@ -1,0 +1,43 @@
+// Floats in a row: which are finite, and copies.
+ghost use mathlib.Core.Path.{_≡_};
+ghost use Prim.Native.Nat.{min};
+ghost use Rattle.floats.specs.Floats.{isFinite, allFinite, overlaid};
+
+// Is x neither an infinity nor a NaN?
+pub fn finite(x: f32) -> bool
+    ensures { λ r. ⌜ r ≡ isFinite x ⌝ }
+{
+    let infinity = 1.0f32 / 0.0f32;
+    (x < infinity) & (-infinity < x)
+}
+
+// Is every float of s finite? No branch in the loop, so that it is compiled to wide instructions.
+pub fn all_finite(s: &[f32]) -> bool
+    ensures { λ r. ⌜ r ≡ allFinite (now (s .entry)) ⌝ }
+{
+    let mut ok = true;
+    let mut i = 0;
+    while i < s.len() {
+        ok = ok & finite(s[i]);
+        i += 1;
+    }
+    ok
+}
+
+fn fewer(a: usize, b: usize) -> usize
+    ensures { λ r. ⌜ r ≡ min a b ⌝ }
+{
+    if a < b { a } else { b }
+}
+
+// The floats of `from` go into the front of `to`, as many as both have.
+pub fn copy(to: &mut [f32], from: &[f32])
+    ensures { λ _. ⌜ now (to .exit) ≡ overlaid (now (to .entry)) (now (from .entry)) ⌝ }
+{
+    let n = fewer(to.len(), from.len());
+    let mut i = 0;
+    while i < n {
+        to[i] = from[i];
+        i += 1;
+    }
+}

@@ -1,0 +1,91 @@
+-- `lowest` is the lowest: none where every one is none, else one of the list that no other undercuts. By the list's length.
+use Prim.Native.Nat.{ℕ, zero, suc, min, _-_, _≤_, _<_}
+use mathlib.Core.Path.{_≡_, refl, sym, subst, _∙_}
+use mathlib.Core.Logic.{_⊎_, inl, inr}
+use mathlib.Core.List.{List, [], _∷_}
+use native.Mathlib.Nat.{eq-zero-or-pos}
+use native.Mathlib.Omega.{arith}
+use Rattle.refusal.specs.Refusal.{lowerOf, lowest, In, Lowest}
+
+-- ---- which of two is the lower
+
+pub is-second : (a b : ℕ) → a ≡ 0 → lowerOf a b ≡ b
+unfolding lowerOf
+is-second zero b h = refl
+is-second (suc a) b h = absurd (omega arith)
+
+pub is-first : (a b : ℕ) → (a ≡ 0 → ⊥) → b ≡ 0 → lowerOf a b ≡ a
+unfolding lowerOf
+is-first zero b h e = absurd (h refl)
+is-first (suc a) zero h e = refl
+is-first (suc a) (suc b) h e = absurd (omega arith)
+
+pub is-less : (a b : ℕ) → (a ≡ 0 → ⊥) → a < b → lowerOf a b ≡ a
+unfolding lowerOf
+is-less zero b h l = absurd (h refl)
+is-less (suc a) zero h l = absurd (omega arith)
+is-less (suc a) (suc b) h l = omega arith
+
+pub is-least : (a b : ℕ) → (b ≡ 0 → ⊥) → b ≤ a → lowerOf a b ≡ b
+unfolding lowerOf
+is-least zero b h l = refl
+is-least (suc a) zero h l = absurd (h refl)
+is-least (suc a) (suc b) h l = omega arith
+
+-- ---- the lowest of a list
+
+none-first : (a b : ℕ) → lowerOf a b ≡ 0 → a ≡ 0
+unfolding lowerOf
+none-first zero b h = refl
+none-first (suc a) zero h = h
+none-first (suc a) (suc b) h = absurd (omega arith)
+
+none-second : (a b : ℕ) → lowerOf a b ≡ 0 → b ≡ 0
+unfolding lowerOf
+none-second zero b h = h
+none-second (suc a) zero h = refl
+none-second (suc a) (suc b) h = absurd (omega arith)
+
+least-first : (a b : ℕ) → (a ≡ 0 → ⊥) → lowerOf a b ≤ a
+unfolding lowerOf
+least-first zero b h = absurd (h refl)
+least-first (suc a) zero h = omega arith
+least-first (suc a) (suc b) h = omega arith
+
+least-second : (a b : ℕ) → (b ≡ 0 → ⊥) → lowerOf a b ≤ b
+unfolding lowerOf
+least-second zero b h = omega arith
+least-second (suc a) zero h = absurd (h refl)
+least-second (suc a) (suc b) h = omega arith
+
+either : (a b : ℕ) → (lowerOf a b ≡ a) ⊎ (lowerOf a b ≡ b)
+unfolding lowerOf
+either zero b = inr refl
+either (suc a) zero = inl refl
+either (suc a) (suc b) = elim (eq-zero-or-pos (suc a - b)) [ inl e ↦ inl (omega arith) | inr l ↦ inr (omega arith) ]
+
+-- the lower of k and the lowest of the others is the lowest of all
+more : (k r : ℕ) (ks : List ℕ) → Lowest ks r → Lowest (k ∷ ks) (lowerOf k r)
+more k r ks low = record {
+  none = λ e j i. elim i [ inl p ↦ p ∙ none-first k r e | inr q ↦ low .none (none-second k r e) j q ];
+  given = λ h. elim (either k r) [ inl e ↦ inl e | inr e ↦ inr (subst (λ (n : ℕ). In n ks) (sym e) (low .given (λ z. h (e ∙ z)))) ];
+  least = λ j i h. elim i [
+    | inl p ↦ subst (λ (n : ℕ). lowerOf k r ≤ n) (sym p) (least-first k r (λ z. h (p ∙ z)))
+    | inr q ↦ below j (low .least j q h) (λ z. h (low .none z j q))
+  ];
+}
+  where
+    below : (j : ℕ) → r ≤ j → (r ≡ 0 → ⊥) → lowerOf k r ≤ j
+    below j l h = let s = least-second k r h in omega arith
+
+alone : (k : ℕ) → Lowest (k ∷ []) k
+alone k = record {
+  none = λ e j i. elim i [ inl p ↦ p ∙ e | inr q ↦ absurd q ];
+  given = λ h. inl refl;
+  least = λ j i h. elim i [ inl p ↦ omega arith | inr q ↦ absurd q ];
+}
+
+pub is-lowest : (ks : List ℕ) → Lowest ks (lowest ks)
+is-lowest [] = record { none = λ e k i. absurd i; given = λ h. absurd (h refl); least = λ k i. absurd i }
+is-lowest (k ∷ []) = alone k
+is-lowest (k ∷ j ∷ ks) = more k (lowest (j ∷ ks)) (j ∷ ks) (is-lowest (j ∷ ks))
