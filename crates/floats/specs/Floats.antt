@@ -1,7 +1,30 @@
--- Floats, one and in a row.
+-- Floats, one and in a row. Each operation is that of f32, rounded once.
+use Prim.Native.Nat.{ℕ}
 use mathlib.Core.Bool.{Bool, true, false, _&&_}
 use mathlib.Core.List.{List, [], _∷_}
-use lib.Ieee.{Float, nan, inf, fin}
+use lib.Ieee.{Float, nan, inf, fin, binary32, ofBits, add, sub, mul, div}
+
+-- the f32 of these bits
+abbrev pub f32 : ℕ → Float
+f32 b = ofBits binary32 b
+
+abbrev pub zero32 : Float
+zero32 = f32 0
+
+abbrev pub one32 : Float
+one32 = f32 0x3F80_0000
+
+abbrev pub plus : Float → Float → Float
+plus x y = add binary32 x y
+
+abbrev pub minus : Float → Float → Float
+minus x y = sub binary32 x y
+
+abbrev pub times : Float → Float → Float
+times x y = mul binary32 x y
+
+abbrev pub over : Float → Float → Float
+over x y = div binary32 x y
 
 -- neither an infinity nor a NaN
 abbrev pub isFinite : Float → Bool

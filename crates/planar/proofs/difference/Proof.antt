@@ -1,0 +1,13 @@
+-- `difference`: the definition, operation by operation. Assumes nothing.
+use mathlib.Core.Path.{refl}
+use borrow.Author.Needs.{needs}
+use Rattle.planar.specs.Poses.{pointDifference}
+use Rattle.planar.proofs.difference.Statement.{statement}
+use Rattle.planar.proofs.difference.Tie as tie
+
+returns : tie.Need-returns
+unfolding pointDifference
+returns c = refl
+
+pub difference-spec : {M : Type 1} → statement M
+difference-spec = tie.close (tie.spec returns)
