@@ -2,6 +2,7 @@
 use Prim.Native.Nat.{ℕ}
 use mathlib.Core.Bool.{Bool, true, false, _&&_}
 use mathlib.Core.List.{List, [], _∷_}
+use lib.ListN.{getD}
 use lib.Ieee.{Float, nan, inf, fin, binary32, ofBits, add, sub, mul, div}
 
 -- the f32 of these bits
@@ -35,6 +36,10 @@ isFinite (fin s m e) = true
 abbrev pub allFinite : List Float → Bool
 allFinite [] = true
 allFinite (x ∷ xs) = isFinite x && allFinite xs
+
+-- what stands at k, and +0 past the end
+unfoldable pub entryOf : List Float → ℕ → Float
+entryOf row k = getD row k zero32
 
 -- f at each entry of d with the entry of s at the same place; where s has none, d's entry stays
 abbrev pub zipTo : (Float → Float → Float) → List Float → List Float → List Float

@@ -1,7 +1,7 @@
 // Floats in a row: which are finite, and copies.
 ghost use mathlib.Core.Path.{_≡_};
 ghost use Prim.Native.Nat.{min};
-ghost use Rattle.floats.specs.Floats.{isFinite, allFinite, overlaid};
+ghost use Rattle.floats.specs.Floats.{isFinite, allFinite, entryOf, overlaid};
 
 // Is x neither an infinity nor a NaN?
 pub fn finite(x: f32) -> bool
@@ -22,6 +22,13 @@ pub fn all_finite(s: &[f32]) -> bool
         i += 1;
     }
     ok
+}
+
+// What stands at k in a row, and +0 past its end.
+pub fn entry(row: &[f32], k: usize) -> f32
+    ensures { λ r. ⌜ r ≡ entryOf (now (row .entry)) k ⌝ }
+{
+    if k < row.len() { row[k] } else { 0.0 }
 }
 
 fn fewer(a: usize, b: usize) -> usize

@@ -1,0 +1,21 @@
+-- `free`: the definition, field by field. Assumes nothing.
+use borrow.Author.Needs.{needs}
+use Rattle.multibody_joint.specs.Joint.{freeJoint}
+use Rattle.multibody_joint.proofs.free.Statement.{statement}
+use Rattle.multibody_joint.proofs.free.Tie as tie
+
+identity-requires : tie.Need-identity-requires
+identity-requires c κs = search needs
+
+identity-requires-2 : tie.Need-identity-requires-2
+identity-requires-2 c κs = search needs
+
+rotation-of-requires : tie.Need-rotation-of-requires
+rotation-of-requires c κs = search needs
+
+returns : tie.Need-returns
+unfolding freeJoint
+returns c = cc
+
+pub free-spec : {M : Type 1} → statement M
+free-spec = tie.close (tie.spec identity-requires identity-requires-2 rotation-of-requires returns)

@@ -1,0 +1,31 @@
+-- `integrate`: its three coordinates and its rotation are the definition's. Assumes nothing.
+use borrow.Author.Needs.{needs}
+use Rattle.multibody_joint.specs.Motion.{integrated}
+use Rattle.multibody_joint.proofs.integrate.Statement.{statement}
+use Rattle.multibody_joint.proofs.integrate.Tie as tie
+
+integrated-at-requires : tie.Need-integrated-at-requires
+integrated-at-requires c κs = search needs
+
+integrated-at-requires-2 : tie.Need-integrated-at-requires-2
+integrated-at-requires-2 c κs = search needs
+
+integrated-at-requires-3 : tie.Need-integrated-at-requires-3
+integrated-at-requires-3 c κs = search needs
+
+renewed-rotation-requires : tie.Need-renewed-rotation-requires
+renewed-rotation-requires c κs = search needs
+
+returns : tie.Need-returns
+unfolding integrated
+returns c = cc
+
+pub integrate-spec : {M : Type 1} → statement M
+integrate-spec =
+    tie.close
+    (tie.spec
+    integrated-at-requires
+    integrated-at-requires-2
+    integrated-at-requires-3
+    renewed-rotation-requires
+    returns)
