@@ -28,6 +28,8 @@ pub struct End {
     pub axis: u32,
 }
 
+/// A command with all that its line says, read by the oracle or not.
+#[allow(dead_code)]
 #[derive(Clone, Debug)]
 pub enum Command {
     New,
@@ -132,6 +134,7 @@ pub enum Command {
 }
 
 /// Writes past the library.
+#[allow(dead_code)]
 #[derive(Clone, Copy, Debug)]
 pub enum Poke {
     Links(u32),
