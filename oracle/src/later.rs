@@ -2,7 +2,6 @@
 //!
 //!     inv X                                   the crate's reciprocal
 //!     driven LINK 0|1                         T-14's flag
-//!     factor                                  the mass matrix over the DoFs that aren't driven
 //!     couplingrows LINK ERP_INV_DT            T-07's rows
 //!     body LINK MASS INERTIA (9 floats)       force and torque, body velocity, joint velocity
 //!     accel DT                                T-02's accelerations
@@ -19,7 +18,6 @@ pub fn answer(arm: &mut Arm, line: &[u8]) -> Option<String> {
     match words.word()? {
         b"inv" => answer.line(format_args!("inv"), &[rapier::inv(words.float()?)]),
         b"driven" => arm.set_driven(words.number()? as usize, words.number()? != 0),
-        b"factor" => arm.factor_undriven(),
         b"couplingrows" => {
             let rows = arm.coupling_rows(words.number()? as usize, words.float()?);
             rows.iter().for_each(|row| write_row(&mut answer, "couplingrow", row));

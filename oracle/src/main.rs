@@ -22,6 +22,9 @@ const USAGE: &str = "usage:
                 [--root-shifts-by-01]                                  generated scripts through both
   oracle selftest                                                      that the comparer can fail";
 
+/// Where scripts that show a difference go.
+const SAVE: &str = concat!(env!("CARGO_MANIFEST_DIR"), "/target/differ");
+
 /// The words after the subcommand: `--name value`, `--flag`, and plain ones.
 struct Arguments(Vec<String>);
 
@@ -46,6 +49,10 @@ impl Arguments {
 
     fn family(&mut self) -> Option<Family> {
         self.value("--family").and_then(|letter| Family::of_letter(&letter))
+    }
+
+    fn all_read(&self) -> Option<()> {
+        self.0.is_empty().then_some(())
     }
 
     fn plain(&mut self) -> Option<String> {
@@ -81,6 +88,7 @@ fn answer(arguments: &mut Arguments) -> Option<bool> {
     let accepted = arguments
         .value("--accepted")
         .map(|path| std::fs::read_to_string(path).unwrap());
+    arguments.all_read()?;
     let mut statuses = accepted.as_deref().map(differ::Answers::of);
     let mut input = Vec::new();
     std::io::stdin().read_to_end(&mut input).unwrap();
@@ -102,6 +110,7 @@ fn answer(arguments: &mut Arguments) -> Option<bool> {
 fn generate(arguments: &mut Arguments) -> Option<bool> {
     let (seed, count) = (arguments.number("--seed")?, arguments.number("--count")?);
     let (first, family) = (arguments.number("--from").unwrap_or(0), arguments.family());
+    arguments.all_read()?;
     let mut output = std::io::stdout().lock();
     for number in first..first + count {
         output
@@ -129,8 +138,9 @@ fn differ(arguments: &mut Arguments) -> Option<bool> {
         family: arguments.family(),
         root_shifts_by_01: arguments.flag("--root-shifts-by-01"),
         jobs: arguments.number("--jobs").unwrap_or(2) as usize,
-        save: PathBuf::from(arguments.value("--save").unwrap_or("target/differ".into())),
+        save: PathBuf::from(arguments.value("--save").unwrap_or(SAVE.into())),
     };
+    arguments.all_read()?;
     let comparison = differ::run(&options);
     println!(
         "scripts {} to {} of seed {}",

@@ -359,8 +359,15 @@ impl Arm {
         };
     }
 
+    /// Has the crate factor a matrix over the DoFs that aren't driven: all of them, but for T-14.
+    pub(crate) fn factor_undriven(&mut self) {
+        let joints = self.multibody.links().map(|link| link.joint());
+        let dofs = joints.filter(|joint| !joint.kinematic).map(|joint| joint.ndofs()).sum();
+        self.factor(dofs);
+    }
+
     /// Has the crate factor the first n·n floats that are lent, in rows of n.
-    pub(crate) fn factor(&mut self, n: usize) {
+    fn factor(&mut self, n: usize) {
         if self.factored != Some(n) {
             self.multibody
                 .oracle_set_mass(na::DMatrix::from_row_slice(n, n, &self.mass[..n * n]));
@@ -429,7 +436,7 @@ impl Arm {
     }
 
     fn row_constraint(&mut self, write: impl Fn(&Self, &mut DVector, &mut [GenericJointConstraint])) -> RowConstraint {
-        self.factor(self.dofs());
+        self.factor_undriven();
         let mut jacobians = DVector::zeros(2 * self.dofs());
         let mut out = [GenericJointConstraint::blank()];
         write(self, &mut jacobians, &mut out);
@@ -438,7 +445,7 @@ impl Arm {
 
     pub fn fill_jacobians(&mut self, link: usize, force: [Real; 2], torque: Real) -> FilledJacobian {
         let n = self.dofs();
-        self.factor(n);
+        self.factor_undriven();
         let mut out = DVector::zeros(2 * n);
         let (jwj, jv) = self
             .multibody

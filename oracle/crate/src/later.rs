@@ -20,15 +20,8 @@ impl Arm {
         self.forget_factors();
     }
 
-    /// Has the crate factor the matrix over the DoFs that aren't driven.
-    pub fn factor_undriven(&mut self) {
-        let joints = self.multibody.links().map(|link| link.joint());
-        let dofs = joints.filter(|joint| !joint.kinematic).map(|joint| joint.ndofs()).sum();
-        self.factor(dofs);
-    }
-
     pub fn coupling_rows(&mut self, link: usize, erp_inv_dt: Real) -> Vec<RowConstraint> {
-        self.factor(self.dofs());
+        self.factor_undriven();
         let count = self.multibody.num_couplings_owned_by(link);
         let mut jacobians = DVector::zeros(2 * self.dofs() * count);
         let mut out = vec![GenericJointConstraint::blank(); count];

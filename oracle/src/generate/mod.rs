@@ -422,7 +422,7 @@ impl Maker {
         self.look();
     }
 
-    fn mass_line(&mut self, n: usize) -> String {
+    fn mass_values(&mut self, n: usize) -> Vec<f32> {
         let mut values = vec![0.0f32; n * n];
         if self.outside() {
             values.fill_with(|| self.rng.float(100.0));
@@ -438,19 +438,45 @@ impl Maker {
                 values[row * n + row] = sum + 1.01 + self.rng.size(0.4);
             }
         }
-        format!("mass {n} {}", all_bits(&values))
+        values
     }
 
     fn lend_mass(&mut self) {
         let n = self.arm.dofs();
         if self.mass != Some(n) || self.rng.one_in(4) {
-            let line = self.mass_line(n);
-            self.accepted(line);
+            let values = self.mass_values(n);
+            self.accepted(format!("mass {n} {}", all_bits(&values)));
             self.mass = Some(n);
         }
     }
 
+    /// A matrix inside 01's domain but for two of its rows, which stand in each other's place: it needs its pivots.
+    fn solve_with_swapped_rows(&mut self) {
+        let n = self.arm.dofs();
+        let mut values = self.mass_values(n);
+        for at in (0..n * n).filter(|at| at / n != at % n) {
+            if self.rng.one_in(2) {
+                values[at] = 0.0;
+            }
+        }
+        let one = self.rng.below(n);
+        let other = (one + 1) % n;
+        for column in 0..n {
+            values.swap(one * n + column, other * n + column);
+        }
+        let right_sides: Vec<f32> = (0..n).map(|_| self.rng.float(1.0)).collect();
+        self.accepted(format!(
+            "mass {n} {}\nsolve {}",
+            all_bits(&values),
+            all_bits(&right_sides)
+        ));
+        self.mass = None;
+    }
+
     fn solves(&mut self) {
+        if !self.outside() && self.arm.dofs() > 0 && self.rng.one_in(4) {
+            self.solve_with_swapped_rows();
+        }
         self.lend_mass();
         for _ in 0..1 + self.rng.below(4) {
             match self.rng.below(4) {
