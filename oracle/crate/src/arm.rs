@@ -166,6 +166,7 @@ impl Arm {
         self.links() > 0 && self.multibody.root_is_dynamic
     }
 
+    /// By `add_link` and, every second time, by `append`: the crate has both.
     pub fn add_link(&mut self, link: &Link) {
         let root = self.links() == 0;
         let free = link.masks[0] == 0;
@@ -180,8 +181,13 @@ impl Arm {
         if root {
             self.multibody.root_is_dynamic = free;
         }
-        let parent = (!root).then_some(link.parent);
-        self.multibody.add_link(parent, joint(link), body);
+        if self.links() % 2 == 0 {
+            let parent = (!root).then_some(link.parent);
+            self.multibody.add_link(parent, joint(link), body);
+        } else {
+            self.multibody
+                .append(Multibody::with_root(body, true), link.parent, joint(link));
+        }
         self.full_working();
     }
 
