@@ -300,7 +300,7 @@ impl Comparison {
             if let (false, Some(value)) = (class.rule() == Rule::Exact, float(other)) {
                 let size = if class == Class::Sums { facts.sizes[sums] } else { value };
                 sums += (class == Class::Sums) as usize;
-                match excluded(place, class, &theirs, at, facts) {
+                match excluded(place.inside, class, &theirs, at, facts) {
                     Some(reason) => self.exclude(reason, 1),
                     None => self.value(place, class, word, value, size, || {
                         format!("{} word {at}", label(&theirs))
@@ -353,7 +353,7 @@ fn label(words: &[&str]) -> String {
     words[..naming.min(words.len())].join(" ")
 }
 
-fn excluded(place: &Place, class: Class, words: &[&str], at: usize, facts: &Facts) -> Option<Exclusion> {
+fn excluded(inside: bool, class: Class, words: &[&str], at: usize, facts: &Facts) -> Option<Exclusion> {
     let [shift02_parts, shift23_parts] = facts.root_shifts_part;
     match class {
         Class::Rotations => None,
@@ -362,7 +362,26 @@ fn excluded(place: &Place, class: Class, words: &[&str], at: usize, facts: &Fact
         Class::Jacobians | Class::Filled | Class::Sums if facts.root_is_free && shift23_parts => {
             Some(Exclusion::UnderRootShift23)
         }
-        _ if !place.inside => Some(Exclusion::OutsideDomain),
+        _ if !inside => Some(Exclusion::OutsideDomain),
         _ => None,
     }
+}
+
+/// An answer of the crate with `-` for each value that isn't compared.
+pub fn masked(answer: &str, inside: bool, facts: &Facts) -> String {
+    let mut out = String::new();
+    for line in answer.lines() {
+        let words: Vec<&str> = line.split(' ').collect();
+        let shown = classes(line).into_iter().enumerate().map(|(at, class)| {
+            let value = class.rule() != Rule::Exact && float(words[at]).is_some();
+            if value && excluded(inside, class, &words, at, facts).is_some() {
+                "-"
+            } else {
+                words[at]
+            }
+        });
+        out += &shown.collect::<Vec<_>>().join(" ");
+        out.push('\n');
+    }
+    out
 }

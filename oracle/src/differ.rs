@@ -140,12 +140,12 @@ pub fn compare_script(
         let text = String::from_utf8_lossy(line);
         let read = read_line(line);
         if let Line::PassedOver = read {
+            if let Some(family) = Family::of_comment(&text) {
+                (usual, inside) = (Expected::Accepted, family != Family::Outside);
+                expected = usual;
+            }
             let words: Vec<&str> = text.split(' ').collect();
             match words[..] {
-                ["#", "family", letter] => {
-                    (usual, inside) = (Expected::Accepted, Family::of_letter(letter) != Some(Family::Outside));
-                    expected = usual;
-                }
                 ["#", "expect", "any"] => expected = Expected::Either,
                 ["#", "expect", "refused", refusal] => {
                     expected = refusal.parse().map_or(Expected::Either, Expected::Refused);

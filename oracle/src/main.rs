@@ -15,7 +15,8 @@ use std::path::PathBuf;
 use std::process::ExitCode;
 
 const USAGE: &str = "usage:
-  oracle answer [--root-shifts-by-01] [--later] [--accepted ANSWERS]   the crate's answers to a script on standard input
+  oracle answer [--root-shifts-by-01] [--later] [--accepted ANSWERS] [--masked]
+                                                                       the crate's answers to a script on standard input
   oracle generate --seed S --count N [--from K] [--family a|b|c|d]     scripts
   oracle compare SCRIPT ANSWERS [--root-shifts-by-01]                  a program's answers with the crate's
   oracle differ --replay PATH --seed S --scripts N [--from K] [--family a|b|c|d] [--jobs J] [--save FOLDER]
@@ -84,7 +85,8 @@ fn main() -> ExitCode {
 }
 
 fn answer(arguments: &mut Arguments) -> Option<bool> {
-    let mut session = oracle::Session::new(arguments.flag("--root-shifts-by-01"), arguments.flag("--later"));
+    let (by_01, later) = (arguments.flag("--root-shifts-by-01"), arguments.flag("--later"));
+    let masked = arguments.flag("--masked");
     let accepted = arguments
         .value("--accepted")
         .map(|path| std::fs::read_to_string(path).unwrap());
@@ -92,17 +94,26 @@ fn answer(arguments: &mut Arguments) -> Option<bool> {
     let mut statuses = accepted.as_deref().map(differ::Answers::of);
     let mut input = Vec::new();
     std::io::stdin().read_to_end(&mut input).unwrap();
+    let mut session = oracle::Session::new(by_01, later);
+    let mut inside = true;
     let mut output = std::io::BufWriter::new(std::io::stdout().lock());
     for line in script::lines(&input) {
-        if let script::Line::PassedOver = script::read_line(line) {
+        let read = script::read_line(line);
+        if let script::Line::PassedOver = read {
+            let family = Family::of_comment(&String::from_utf8_lossy(line));
+            inside = family.map_or(inside, |family| family != Family::Outside);
             continue;
         }
         let status = statuses.as_mut().map_or("ok", |statuses| statuses.status());
-        if status == "ok" {
-            output.write_all(session.answer_line(line).as_bytes()).unwrap();
-        } else {
-            writeln!(output, "{status}").unwrap();
-        }
+        let answer = match read {
+            _ if status != "ok" => format!("{status}\n"),
+            script::Line::Command(command) if masked => {
+                let (answer, facts) = session.answer(&command);
+                compare::masked(&answer, inside, &facts)
+            }
+            _ => session.answer_line(line),
+        };
+        output.write_all(answer.as_bytes()).unwrap();
     }
     Some(true)
 }

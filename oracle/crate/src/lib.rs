@@ -1,4 +1,4 @@
-//! rapier2d's multibody_joint files, unmodified, in a house of stand-ins, and [`Arm`]: what may be asked of them.
+//! rapier2d's multibody_joint files, unmodified, among stand-ins for the rest, and [`Arm`]: what may be asked of them.
 #![allow(dead_code)] // The files hold more than the oracle asks for.
 
 pub mod alloc_prelude {

@@ -36,6 +36,11 @@ impl Family {
             .find(|family| letter.starts_with(family.letter()) && letter.len() == 1)
     }
 
+    /// The family that a script names in a comment.
+    pub fn of_comment(line: &str) -> Option<Family> {
+        line.strip_prefix("# family ").and_then(Family::of_letter)
+    }
+
     fn plain_root(self) -> bool {
         self != Family::AnyRoot && self != Family::Outside
     }
