@@ -21,7 +21,7 @@ impl Rng {
     }
 
     pub fn below(&mut self, count: usize) -> usize {
-        ((self.next() >> 32) * count as u64 >> 32) as usize
+        (((self.next() >> 32) * count as u64) >> 32) as usize
     }
 
     pub fn one_in(&mut self, count: usize) -> bool {

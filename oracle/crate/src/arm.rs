@@ -181,7 +181,7 @@ impl Arm {
         if root {
             self.multibody.root_is_dynamic = free;
         }
-        if self.links() % 2 == 0 {
+        if self.links().is_multiple_of(2) {
             let parent = (!root).then_some(link.parent);
             self.multibody.add_link(parent, joint(link), body);
         } else {
