@@ -232,6 +232,8 @@ pub struct Comparison {
     pub counts: BTreeMap<Class, Count>,
     pub excluded: BTreeMap<Exclusion, u64>,
     pub differences: Vec<Difference>,
+    /// Scripts by their family's letter.
+    pub scripts: BTreeMap<char, u64>,
     pub commands: u64,
     pub refused: BTreeMap<u8, u64>,
 }

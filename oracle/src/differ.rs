@@ -141,6 +141,7 @@ pub fn compare_script(
         let read = read_line(line);
         if let Line::PassedOver = read {
             if let Some(family) = Family::of_comment(&text) {
+                *comparison.scripts.entry(family.letter()).or_default() += 1;
                 (usual, inside) = (Expected::Accepted, family != Family::Outside);
                 expected = usual;
             }
@@ -219,6 +220,9 @@ impl Comparison {
         }
         for (refusal, times) in other.refused {
             *self.refused.entry(refusal).or_default() += times;
+        }
+        for (family, scripts) in other.scripts {
+            *self.scripts.entry(family).or_default() += scripts;
         }
         self.commands += other.commands;
         self.differences.extend(other.differences);

@@ -1,20 +1,15 @@
 //! What a comparison came to, in words.
 use crate::compare::{Class, Comparison, Rule};
+use std::collections::BTreeMap;
+use std::fmt::Display;
 
 const SHOWN: usize = 20;
 
 pub fn print(comparison: &Comparison) {
     let refused: u64 = comparison.refused.values().sum();
-    let by_number: Vec<String> = comparison
-        .refused
-        .iter()
-        .map(|(number, times)| format!("{number}: {times}"))
-        .collect();
-    println!(
-        "{} commands, {refused} refused ({})",
-        comparison.commands,
-        by_number.join(", ")
-    );
+    let (families, numbers) = (listed(&comparison.scripts), listed(&comparison.refused));
+    println!("scripts by family: {families}");
+    println!("{} commands, {refused} refused ({numbers})", comparison.commands);
     println!(
         "{:34} {:9} {:>12} {:>12} {:>9} {:>8}",
         "class", "rule", "values", "same bits", "worst", "differ"
@@ -47,6 +42,11 @@ pub fn print(comparison: &Comparison) {
         println!("    {}", difference.command);
     }
     println!("{} differences", differences(comparison));
+}
+
+fn listed(counts: &BTreeMap<impl Display, u64>) -> String {
+    let pairs: Vec<String> = counts.iter().map(|(name, count)| format!("{name}: {count}")).collect();
+    pairs.join(", ")
 }
 
 pub fn differences(comparison: &Comparison) -> u64 {

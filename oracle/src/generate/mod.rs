@@ -369,8 +369,13 @@ impl Maker {
     }
 
     fn full(&mut self) {
-        self.accepted("full".into());
-        self.look();
+        if self.rng.one_in(16) {
+            self.accepted("empty\nfull\nstep 0.5\ndump\nkin\ncheck".into());
+            self.arm = Model::default();
+        } else {
+            self.accepted("full".into());
+            self.look();
+        }
     }
 
     /// Questions that change nothing.
