@@ -1,0 +1,87 @@
+use Rattle.masks.proofs.Fills.{Damped}
+use Rattle.masks.specs.Masks.{dampingBelow, dofsBelow}
+use lib.ListN.{length}
+use Prim.Native.Nat.{_-_, _≤_}
+use mathlib.Core.Path.{_≡_, refl}
+use native.Mathlib.Omega.{arith}
+use borrow.Author.Needs.{needs}
+use Rattle.masks.proofs.fill_damping.Statement.{statement}
+use Rattle.masks.proofs.fill_damping.Tie as tie
+use Rattle.masks.proofs.fill_damping.Reads as reads
+use Rattle.masks.proofs.fill_damping.Lts as lts
+use Rattle.masks.proofs.axis_damping.Reads as axis-damping-reads
+use Rattle.masks.proofs.free.Reads as free-reads
+
+abbrev Inv-loop : tie.InvT-loop
+Inv-loop mask lent₀ at₀ axis₀ lent at axis = (axis ≤ 3) × (length lent ≡ length lent₀) × Damped mask axis at lent₀ lent
+
+abbrev μ-loop : tie.MeasureT-loop
+μ-loop mask lent₀ at₀ axis₀ lent at axis = 3 - axis
+
+-- src/lib.rt:184:5
+loop-holds : tie.Need-loop-holds Inv-loop μ-loop
+unfolding dampingBelow dofsBelow
+loop-holds c = (omega arith, refl, damped-none mask lent)
+
+-- src/lib.rt:185:23
+cast-free : tie.Need-cast-free Inv-loop μ-loop
+cast-free c = search needs
+
+-- src/lib.rt:185:12
+free-requires : tie.Need-free-requires Inv-loop μ-loop
+free-requires c κs = search needs
+
+-- src/lib.rt:186:24
+axis-damping-requires : tie.Need-axis-damping-requires Inv-loop μ-loop
+axis-damping-requires c κs = search needs
+
+-- src/lib.rt:186:13
+mul-lent : tie.Need-mul-lent Inv-loop μ-loop
+mul-lent c = search needs
+
+-- src/lib.rt:186:13
+slice-write-lent : tie.Need-slice-write-lent Inv-loop μ-loop
+slice-write-lent c = search needs
+
+-- src/lib.rt:187:13
+add-at : tie.Need-add-at Inv-loop μ-loop
+add-at c = search needs
+
+-- src/lib.rt:184:9
+add-axis : tie.Need-add-axis Inv-loop μ-loop
+add-axis c = search needs
+
+-- src/lib.rt:184:5
+loop-less : tie.Need-loop-less Inv-loop μ-loop
+loop-less c = search needs
+
+-- src/lib.rt:184:5
+loop-again : tie.Need-loop-again Inv-loop μ-loop
+loop-again c = search needs
+
+-- src/lib.rt:179:1
+same-length : tie.Need-same-length Inv-loop μ-loop
+same-length c = search needs
+
+-- src/lib.rt:179:1
+returns : tie.Need-returns Inv-loop μ-loop
+returns c = search needs
+
+pub fill-damping-spec : {M : Type 1} → statement M
+fill-damping-spec =
+    tie.close
+    (tie.spec
+    Inv-loop
+    μ-loop
+    loop-holds
+    cast-free
+    free-requires
+    axis-damping-requires
+    mul-lent
+    slice-write-lent
+    add-at
+    add-axis
+    loop-less
+    loop-again
+    same-length
+    returns)

@@ -1,0 +1,63 @@
+-- What the entry points answer: a refusal and a zero count, or 0 and what was counted.
+use Prim.Native.Nat.{ℕ, zero, suc}
+use mathlib.Core.List.{List, [], _∷_, _++_}
+use lib.Dec.{leb}
+use lib.ListN.{length, drop}
+use lib.Ieee.{Float}
+use Rattle.limits.specs.Limits.{linkLimit}
+use Rattle.refusal.specs.Refusal.{unlessOf, lowest}
+use Rattle.masks.specs.declared.Count.{Count}
+use Rattle.masks.specs.Masks.{isMask, isAxis, one, isFree, dofsBelow, dofsOf, dampingRow, constraintsOf}
+use Rattle.masks.specs.Starts.{allMasks, startsOf, totalOf}
+
+-- a count, unless there is a refusal
+unfoldable pub counted : ℕ → ℕ → Count
+counted zero n = record { refusal = 0; count = n }
+counted (suc k) n = record { refusal = suc k; count = 0 }
+
+-- the answer of a call and what the memory lent to it then holds
+pub record Outcome (A : Type 0) : Type 0 where
+  pub answer : Count
+  pub memory : List A
+
+abbrev pub out : {A : Type 0} → Count → List A → Outcome A
+out answer memory = record { answer = answer; memory = memory }
+
+-- n was counted and the row stands in front of the rest of the memory, unless there is a refusal
+unfoldable pub filled : {A : Type 0} → ℕ → ℕ → List A → List A → Outcome A
+filled zero n row lent = out (counted 0 n) (row ++ drop (length row) lent)
+filled (suc k) n row lent = out (counted (suc k) n) lent
+
+-- is an axis of a mask free?
+unfoldable pub freeAnswer : ℕ → ℕ → Count
+freeAnswer mask axis = counted (lowest (unlessOf (isMask mask) 5 ∷ unlessOf (isAxis axis) 5 ∷ [])) (one (isFree mask axis))
+
+-- the DoF count
+unfoldable pub dofsAnswer : ℕ → Count
+dofsAnswer mask = counted (lowest (unlessOf (isMask mask) 5 ∷ [])) (dofsOf mask)
+
+-- the DoFs below an axis
+unfoldable pub belowAnswer : ℕ → ℕ → Count
+belowAnswer mask axis = counted (lowest (unlessOf (isMask mask) 5 ∷ unlessOf (isAxis axis) 5 ∷ [])) (dofsBelow mask axis)
+
+-- the starts of a bare list, and their total
+unfoldable pub startsAnswer : List ℕ → List ℕ → Outcome ℕ
+startsAnswer masks lent =
+    filled (lowest (
+      unlessOf (leb (length masks) (length lent)) 1
+      ∷ unlessOf (leb (length masks) linkLimit) 2
+      ∷ unlessOf (allMasks masks) 5
+      ∷ []))
+    (totalOf masks) (startsOf masks) lent
+
+-- the default damping row
+unfoldable pub dampingAnswer : ℕ → List Float → Outcome Float
+dampingAnswer mask lent =
+    filled (lowest (unlessOf (leb (dofsOf mask) (length lent)) 1 ∷ unlessOf (isMask mask) 5 ∷ []))
+    (dofsOf mask) (dampingRow mask) lent
+
+-- `num_velocity_constraints`
+unfoldable pub constraintsAnswer : ℕ → ℕ → ℕ → Count
+constraintsAnswer locked limit motor =
+    counted (lowest (unlessOf (isMask locked) 5 ∷ unlessOf (isMask limit) 5 ∷ unlessOf (isMask motor) 5 ∷ []))
+    (constraintsOf locked limit motor)

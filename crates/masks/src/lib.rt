@@ -1,0 +1,223 @@
+// Masks of a joint, locked, limit and motor: bit 0 is X, bit 1 is Y, bit 2 the angle. Bits above 2 never count.
+ghost use mathlib.Core.Path.{_≡_};
+ghost use mathlib.Core.List.{_++_};
+ghost use Prim.Native.Nat.{_<_, _≤_};
+ghost use lib.ListN.{length, drop};
+ghost use Rattle.limits.specs.Limits.{linkLimit};
+ghost use Rattle.masks.specs.Masks.{isMask, isAxis, bitOf, one, isFree, dofsBelow, dofsOf, constraintsAt, dampingOf, dampingRow};
+ghost use Rattle.masks.specs.Starts.{allMasks, startsOf, totalOf};
+ghost use Rattle.masks.specs.Answers.{out, counted, freeAnswer, dofsAnswer, belowAnswer, startsAnswer, dampingAnswer, constraintsAnswer};
+
+use limits::LINKS;
+use refusal::lower;
+use refusal::unless;
+
+// The default damping of a free angle.
+const ANGLE_DAMPING: f32 = 0.1;
+
+// What an entry point answers: a refusal and a zero count, or 0 and what was counted.
+#[repr(C)]
+pub struct Count {
+    pub refusal: u8,
+    pub count: u8,
+}
+
+fn is_mask(mask: u32) -> bool
+    ensures { λ r. ⌜ r ≡ isMask mask ⌝ }
+{
+    mask <= 7
+}
+
+fn is_axis(axis: u32) -> bool
+    ensures { λ r. ⌜ r ≡ isAxis axis ⌝ }
+{
+    axis <= 2
+}
+
+// Is the mask's bit of an axis set?
+fn bit(mask: u32, axis: u32) -> bool
+    requires { ⌜ axis < 3 ⌝ }
+    ensures { λ r. ⌜ r ≡ bitOf mask axis ⌝ }
+{
+    (mask >> axis) & 1 == 1
+}
+
+fn one_if(holds: bool) -> usize
+    ensures { λ r. ⌜ (r ≡ one holds) × (r ≤ 1) ⌝ }
+{
+    if holds { 1 } else { 0 }
+}
+
+// Is it one of the three axes, and free?
+fn free(mask: u32, axis: u32) -> bool
+    ensures { λ r. ⌜ r ≡ isFree mask axis ⌝ }
+{
+    if axis < 3 {
+        return !bit(mask, axis);
+    }
+    false
+}
+
+fn free_below(mask: u32, axis: u32) -> usize
+    ensures { λ r. ⌜ (r ≡ dofsBelow mask axis) × (r ≤ 3) ⌝ }
+{
+    let x = one_if(free(mask, 0));
+    let y = one_if(free(mask, 1));
+    let angle = one_if(free(mask, 2));
+    match axis {
+        0 => 0,
+        1 => x,
+        2 => x + y,
+        _ => x + y + angle,
+    }
+}
+
+// Is it one of the three axes, and free?
+pub fn is_free(mask: u8, axis: u8) -> bool
+    ensures { λ r. ⌜ r ≡ isFree mask axis ⌝ }
+{
+    free(mask as u32, axis as u32)
+}
+
+// How many axes are free.
+pub fn dofs(mask: u8) -> usize
+    ensures { λ r. ⌜ r ≡ dofsOf mask ⌝ }
+{
+    free_below(mask as u32, 3)
+}
+
+// How many axes below an axis are free.
+pub fn dofs_below(mask: u8, axis: u8) -> usize
+    ensures { λ r. ⌜ r ≡ dofsBelow mask axis ⌝ }
+{
+    free_below(mask as u32, axis as u32)
+}
+
+// The default damping of a DoF on an axis.
+pub fn axis_damping(axis: u8) -> f32
+    ensures { λ r. ⌜ r ≡ dampingOf axis ⌝ }
+{
+    if axis == 2 { ANGLE_DAMPING } else { 0.0 }
+}
+
+fn answer(refusal: u8, count: usize) -> Count
+    requires { ⌜ count < 256 ⌝ }
+    ensures { λ r. ⌜ r ≡ counted refusal count ⌝ }
+{
+    if refusal == 0 {
+        return Count {
+            refusal: 0,
+            count: count as u8,
+        };
+    }
+    Count { refusal, count: 0 }
+}
+
+// Is an axis of a mask free? 1 or 0.
+pub fn free_axis(mask: u32, axis: u32) -> Count
+    ensures { λ r. ⌜ r ≡ freeAnswer mask axis ⌝ }
+{
+    let refusal = lower(unless(is_mask(mask), 5), unless(is_axis(axis), 5));
+    answer(refusal, one_if(free(mask, axis)))
+}
+
+// The DoF count of a mask.
+pub fn dof_count(mask: u32) -> Count
+    ensures { λ r. ⌜ r ≡ dofsAnswer mask ⌝ }
+{
+    answer(unless(is_mask(mask), 5), free_below(mask, 3))
+}
+
+// The DoFs of a mask below an axis.
+pub fn dof_count_below(mask: u32, axis: u32) -> Count
+    ensures { λ r. ⌜ r ≡ belowAnswer mask axis ⌝ }
+{
+    let refusal = lower(unless(is_mask(mask), 5), unless(is_axis(axis), 5));
+    answer(refusal, free_below(mask, axis))
+}
+
+fn all_masks(masks: &[u8]) -> bool
+    ensures { λ r. ⌜ r ≡ allMasks (now (masks .entry)) ⌝ }
+{
+    let mut ok = true;
+    let mut i = 0;
+    while i < masks.len() {
+        ok = ok & is_mask(masks[i] as u32);
+        i += 1;
+    }
+    ok
+}
+
+// The starts go into the front of `lent`; returned is the total.
+fn fill_starts(masks: &[u8], lent: &mut [u8]) -> usize
+    requires { ⌜ (length (now masks) ≤ linkLimit) × (length (now masks) ≤ length (now lent)) ⌝ }
+    ensures { λ r. ⌜ (r ≡ totalOf (now (masks .entry))) × (now (lent .exit) ≡ startsOf (now (masks .entry)) ++ drop (length (now (masks .entry))) (now (lent .entry))) ⌝ }
+{
+    let mut start: usize = 0;
+    let mut i = 0;
+    while i < masks.len() {
+        lent[i] = start as u8;
+        start += dofs(masks[i]);
+        i += 1;
+    }
+    start
+}
+
+// The start of each mask of a bare list, a byte each, and their total.
+pub fn starts(masks: &[u8], lent: &mut [u8]) -> Count
+    ensures { λ r. ⌜ out r (now (lent .exit)) ≡ startsAnswer (now (masks .entry)) (now (lent .entry)) ⌝ }
+{
+    let n = masks.len();
+    let refusal = lower(unless(n <= lent.len(), 1), lower(unless(n <= LINKS, 2), unless(all_masks(masks), 5)));
+    if refusal == 0 {
+        return answer(0, fill_starts(masks, lent));
+    }
+    answer(refusal, 0)
+}
+
+// The default damping of each free axis, rising, goes into the front of `lent`.
+fn fill_damping(mask: u32, lent: &mut [f32])
+    requires { ⌜ dofsOf mask ≤ length (now lent) ⌝ }
+    ensures { λ _. ⌜ now (lent .exit) ≡ dampingRow mask ++ drop (dofsOf mask) (now (lent .entry)) ⌝ }
+{
+    let mut at = 0;
+    for axis in 0u8..3 {
+        if free(mask, axis as u32) {
+            lent[at] = axis_damping(axis);
+            at += 1;
+        }
+    }
+}
+
+// The default damping row of a mask: one entry for each DoF, rising.
+pub fn default_damping(mask: u32, lent: &mut [f32]) -> Count
+    ensures { λ r. ⌜ out r (now (lent .exit)) ≡ dampingAnswer mask (now (lent .entry)) ⌝ }
+{
+    let n = free_below(mask, 3);
+    let refusal = lower(unless(n <= lent.len(), 1), unless(is_mask(mask), 5));
+    if refusal == 0 {
+        fill_damping(mask, lent);
+        return answer(0, n);
+    }
+    answer(refusal, 0)
+}
+
+// One for the axis' limit bit and one for its motor bit, if the axis is free.
+fn constraints_at(locked: u32, limit: u32, motor: u32, axis: u32) -> usize
+    requires { ⌜ axis < 3 ⌝ }
+    ensures { λ r. ⌜ (r ≡ constraintsAt locked limit motor axis) × (r ≤ 2) ⌝ }
+{
+    let moves = free(locked, axis);
+    one_if(moves & bit(limit, axis)) + one_if(moves & bit(motor, axis))
+}
+
+// How many velocity constraints a joint's limits and motors make.
+pub fn num_velocity_constraints(locked: u32, limit: u32, motor: u32) -> Count
+    ensures { λ r. ⌜ r ≡ constraintsAnswer locked limit motor ⌝ }
+{
+    let refusal = lower(unless(is_mask(locked), 5), lower(unless(is_mask(limit), 5), unless(is_mask(motor), 5)));
+    let x = constraints_at(locked, limit, motor, 0);
+    let y = constraints_at(locked, limit, motor, 1);
+    let angle = constraints_at(locked, limit, motor, 2);
+    answer(refusal, x + y + angle)
+}
