@@ -15,6 +15,10 @@ unfoldable pub counted : ℕ → ℕ → Count
 counted zero n = record { refusal = 0; count = n }
 counted (suc k) n = record { refusal = suc k; count = 0 }
 
+-- a row laid over the front of lent memory; what lies past it stays
+unfoldable pub laid : {A : Type 0} → List A → List A → List A
+laid row lent = row ++ drop (length row) lent
+
 -- the answer of a call and what the memory lent to it then holds
 pub record Outcome (A : Type 0) : Type 0 where
   pub answer : Count
@@ -23,9 +27,9 @@ pub record Outcome (A : Type 0) : Type 0 where
 abbrev pub out : {A : Type 0} → Count → List A → Outcome A
 out answer memory = record { answer = answer; memory = memory }
 
--- n was counted and the row stands in front of the rest of the memory, unless there is a refusal
+-- n was counted and the row is laid over the memory, unless there is a refusal
 unfoldable pub filled : {A : Type 0} → ℕ → ℕ → List A → List A → Outcome A
-filled zero n row lent = out (counted 0 n) (row ++ drop (length row) lent)
+filled zero n row lent = out (counted 0 n) (laid row lent)
 filled (suc k) n row lent = out (counted (suc k) n) lent
 
 -- is an axis of a mask free?
@@ -40,21 +44,24 @@ dofsAnswer mask = counted (lowest (unlessOf (isMask mask) 5 ∷ [])) (dofsOf mas
 unfoldable pub belowAnswer : ℕ → ℕ → Count
 belowAnswer mask axis = counted (lowest (unlessOf (isMask mask) 5 ∷ unlessOf (isAxis axis) 5 ∷ [])) (dofsBelow mask axis)
 
--- the starts of a bare list, and their total
-unfoldable pub startsAnswer : List ℕ → List ℕ → Outcome ℕ
-startsAnswer masks lent =
-    filled (lowest (
-      unlessOf (leb (length masks) (length lent)) 1
-      ∷ unlessOf (leb (length masks) linkLimit) 2
-      ∷ unlessOf (allMasks masks) 5
-      ∷ []))
-    (totalOf masks) (startsOf masks) lent
+-- the starts of a bare list, a place each, and their total
+unfoldable pub startsRefusal : List ℕ → ℕ → ℕ
+startsRefusal masks room =
+    lowest
+    (unlessOf (leb (length masks) room) 1
+    ∷ unlessOf (leb (length masks) linkLimit) 2
+    ∷ unlessOf (allMasks masks) 5
+    ∷ [])
 
--- the default damping row
+unfoldable pub startsAnswer : List ℕ → List ℕ → Outcome ℕ
+startsAnswer masks lent = filled (startsRefusal masks (length lent)) (totalOf masks) (startsOf masks) lent
+
+-- the default damping row, a place for each DoF
+unfoldable pub dampingRefusal : ℕ → ℕ → ℕ
+dampingRefusal mask room = lowest (unlessOf (leb (dofsOf mask) room) 1 ∷ unlessOf (isMask mask) 5 ∷ [])
+
 unfoldable pub dampingAnswer : ℕ → List Float → Outcome Float
-dampingAnswer mask lent =
-    filled (lowest (unlessOf (leb (dofsOf mask) (length lent)) 1 ∷ unlessOf (isMask mask) 5 ∷ []))
-    (dofsOf mask) (dampingRow mask) lent
+dampingAnswer mask lent = filled (dampingRefusal mask (length lent)) (dofsOf mask) (dampingRow mask) lent
 
 -- `num_velocity_constraints`
 unfoldable pub constraintsAnswer : ℕ → ℕ → ℕ → Count

@@ -1,12 +1,11 @@
 // Masks of a joint, locked, limit and motor: bit 0 is X, bit 1 is Y, bit 2 the angle. Bits above 2 never count.
 ghost use mathlib.Core.Path.{_≡_};
-ghost use mathlib.Core.List.{_++_};
 ghost use Prim.Native.Nat.{_<_, _≤_};
-ghost use lib.ListN.{length, drop};
+ghost use lib.ListN.{length};
 ghost use Rattle.limits.specs.Limits.{linkLimit};
 ghost use Rattle.masks.specs.Masks.{isMask, isAxis, bitOf, one, isFree, dofsBelow, dofsOf, constraintsAt, dampingOf, dampingRow};
 ghost use Rattle.masks.specs.Starts.{allMasks, startsOf, totalOf};
-ghost use Rattle.masks.specs.Answers.{out, counted, freeAnswer, dofsAnswer, belowAnswer, startsAnswer, dampingAnswer, constraintsAnswer};
+ghost use Rattle.masks.specs.Answers.{out, counted, laid, freeAnswer, dofsAnswer, belowAnswer, startsAnswer, dampingAnswer, constraintsAnswer};
 
 use limits::LINKS;
 use refusal::lower;
@@ -151,7 +150,7 @@ fn all_masks(masks: &[u8]) -> bool
 // The starts go into the front of `lent`; returned is the total.
 fn fill_starts(masks: &[u8], lent: &mut [u8]) -> usize
     requires { ⌜ (length (now masks) ≤ linkLimit) × (length (now masks) ≤ length (now lent)) ⌝ }
-    ensures { λ r. ⌜ (r ≡ totalOf (now (masks .entry))) × (now (lent .exit) ≡ startsOf (now (masks .entry)) ++ drop (length (now (masks .entry))) (now (lent .entry))) ⌝ }
+    ensures { λ r. ⌜ (r ≡ totalOf (now (masks .entry))) × (now (lent .exit) ≡ laid (startsOf (now (masks .entry))) (now (lent .entry))) ⌝ }
 {
     let mut start: usize = 0;
     let mut i = 0;
@@ -178,7 +177,7 @@ pub fn starts(masks: &[u8], lent: &mut [u8]) -> Count
 // The default damping of each free axis, rising, goes into the front of `lent`.
 fn fill_damping(mask: u32, lent: &mut [f32])
     requires { ⌜ dofsOf mask ≤ length (now lent) ⌝ }
-    ensures { λ _. ⌜ now (lent .exit) ≡ dampingRow mask ++ drop (dofsOf mask) (now (lent .entry)) ⌝ }
+    ensures { λ _. ⌜ now (lent .exit) ≡ laid (dampingRow mask) (now (lent .entry)) ⌝ }
 {
     let mut at = 0;
     for axis in 0u8..3 {

@@ -28,7 +28,7 @@ shared-slice-read-is-mask c = search needs
 
 -- src/lib.rt:145:27
 cast-is-mask : tie.Need-cast-is-mask Inv-loop μ-loop
-cast-is-mask c = search needs
+cast-is-mask c = omega (arith, c .shared-slice-known2 .given (c .before .before .loop .i))
 
 -- src/lib.rt:145:19
 is-mask-requires : tie.Need-is-mask-requires Inv-loop μ-loop

@@ -1,8 +1,11 @@
-use Rattle.masks.proofs.Fills.{Damped}
-use Rattle.masks.specs.Masks.{dampingBelow, dofsBelow}
+use Rattle.masks.specs.Answers.{laid}
+use mathlib.Core.Logic.{⊎-elim}
+use Rattle.masks.proofs.Laws.{below-free, dofs-le}
+use Rattle.masks.proofs.Fills.{Damped, damped-none, damped-free, damped-locked}
+use Rattle.masks.specs.Masks.{dampingBelow, dofsBelow, dampingRow}
 use lib.ListN.{length}
-use Prim.Native.Nat.{_-_, _≤_}
-use mathlib.Core.Path.{_≡_, refl}
+use Prim.Native.Nat.{_-_, _≤_, ℕ}
+use mathlib.Core.Path.{_≡_, refl, _∙_, sym, ap}
 use native.Mathlib.Omega.{arith}
 use borrow.Author.Needs.{needs}
 use Rattle.masks.proofs.fill_damping.Statement.{statement}
@@ -13,15 +16,14 @@ use Rattle.masks.proofs.axis_damping.Reads as axis-damping-reads
 use Rattle.masks.proofs.free.Reads as free-reads
 
 abbrev Inv-loop : tie.InvT-loop
-Inv-loop mask lent₀ at₀ axis₀ lent at axis = (axis ≤ 3) × (length lent ≡ length lent₀) × Damped mask axis at lent₀ lent
+Inv-loop mask lent₀ at₀ axis₀ lent at axis = (axis ≤ 3) × Damped mask axis at lent₀ lent
 
 abbrev μ-loop : tie.MeasureT-loop
 μ-loop mask lent₀ at₀ axis₀ lent at axis = 3 - axis
 
 -- src/lib.rt:184:5
 loop-holds : tie.Need-loop-holds Inv-loop μ-loop
-unfolding dampingBelow dofsBelow
-loop-holds c = (omega arith, refl, damped-none mask lent)
+loop-holds c = (omega arith, damped-none (c .before .args .mask) (c .before .args .lent .now))
 
 -- src/lib.rt:185:23
 cast-free : tie.Need-cast-free Inv-loop μ-loop
@@ -37,15 +39,15 @@ axis-damping-requires c κs = search needs
 
 -- src/lib.rt:186:13
 mul-lent : tie.Need-mul-lent Inv-loop μ-loop
-mul-lent c = search needs
+mul-lent c = omega (arith, below-free (c .before .before .before .before .before .before .args .mask) (c .before .before .before .before .loop .axis) (sym (c .before .before .free .ensures) ∙ c .before .if1 .taken), dofs-le (c .before .before .before .before .before .before .args .mask))
 
 -- src/lib.rt:186:13
 slice-write-lent : tie.Need-slice-write-lent Inv-loop μ-loop
-slice-write-lent c = search needs
+slice-write-lent c = omega (arith, below-free (c .before .before .before .before .before .before .args .mask) (c .before .before .before .before .loop .axis) (sym (c .before .before .free .ensures) ∙ c .before .if1 .taken))
 
 -- src/lib.rt:187:13
 add-at : tie.Need-add-at Inv-loop μ-loop
-add-at c = search needs
+add-at c = omega (arith, below-free (c .before .before .before .before .before .before .args .mask) (c .before .before .before .before .loop .axis) (sym (c .before .before .free .ensures) ∙ c .before .if1 .taken), dofs-le (c .before .before .before .before .before .before .args .mask))
 
 -- src/lib.rt:184:9
 add-axis : tie.Need-add-axis Inv-loop μ-loop
@@ -57,7 +59,16 @@ loop-less c = search needs
 
 -- src/lib.rt:184:5
 loop-again : tie.Need-loop-again Inv-loop μ-loop
-loop-again c = search needs
+loop-again c = 
+    let k = c .before .before .before .loop in
+    let a = c .before .before .before .before .before .args in
+    let m = a .mask in
+    let old = a .lent .now in
+    let turn = ⊎-elim
+        (λ w. damped-free m (k .axis) (k .at) (c .if1 .at) old (k .lent) (c .if1 .lent) (k .inv .1) (w .1 .result) (sym (c .before .free .ensures) ∙ w .0 .taken) (omega (arith, below-free m (k .axis) (sym (c .before .free .ensures) ∙ w .0 .taken))) (w .1 .ensures) (w .2) (w .3))
+        (λ w. damped-locked m (k .axis) (k .at) (c .if1 .at) old (k .lent) (c .if1 .lent) (k .inv .1) (sym (c .before .free .ensures) ∙ w .0 .left) (w .1) (w .2))
+        (c .if1 .came) in
+    (omega arith, turn)
 
 -- src/lib.rt:179:1
 same-length : tie.Need-same-length Inv-loop μ-loop
@@ -65,7 +76,9 @@ same-length c = search needs
 
 -- src/lib.rt:179:1
 returns : tie.Need-returns Inv-loop μ-loop
-returns c = search needs
+unfolding dampingRow
+returns c = let e : c .before .loop .axis ≡ 3 = omega arith in
+    c .before .loop .inv .1 .row ∙ ap (λ (n : ℕ). laid (dampingBelow (c .before .before .before .args .mask) n) (c .before .before .before .args .lent .now)) e
 
 pub fill-damping-spec : {M : Type 1} → statement M
 fill-damping-spec =

@@ -1,11 +1,12 @@
-use Rattle.masks.proofs.Fills.{starts-done, starts-more}
+use Rattle.masks.specs.Answers.{laid}
+use Rattle.masks.proofs.Fills.{starts-more, laid-none}
 use Rattle.masks.proofs.Totals.{start-all, start-le, start-next}
 use Rattle.masks.proofs.Laws.{dofs-le}
-use Rattle.masks.specs.Starts.{startOf, startsTo, totalOf}
-use lib.ListN.{drop, getD, length, length-set}
-use Prim.Native.Nat.{_-_, _≤_}
+use Rattle.masks.specs.Starts.{startOf, startsTo, totalOf, startsOf}
+use lib.ListN.{getD, length, length-set}
+use Prim.Native.Nat.{_-_, _≤_, ℕ}
 use mathlib.Core.List.{_++_}
-use mathlib.Core.Path.{_∙_, _≡_, refl}
+use mathlib.Core.Path.{_∙_, _≡_, refl, ap}
 use native.Mathlib.Omega.{arith}
 use borrow.Author.Needs.{needs}
 use Rattle.masks.proofs.fill_starts.Statement.{statement}
@@ -15,7 +16,7 @@ use Rattle.masks.proofs.fill_starts.Lts as lts
 use Rattle.masks.proofs.dofs.Reads as dofs-reads
 
 abbrev Inv-loop : tie.InvT-loop
-Inv-loop masks lent₀ start₀ i₀ lent start i = (i ≤ length masks) × (start ≡ startOf masks i) × (length lent ≡ length lent₀) × (lent ≡ startsTo masks i ++ drop i lent₀)
+Inv-loop masks lent₀ start₀ i₀ lent start i = (i ≤ length masks) × (start ≡ startOf masks i) × (length lent ≡ length lent₀) × (lent ≡ laid (startsTo masks i) lent₀)
 
 abbrev μ-loop : tie.MeasureT-loop
 μ-loop masks lent₀ start₀ i₀ lent start i = length masks - i
@@ -23,7 +24,7 @@ abbrev μ-loop : tie.MeasureT-loop
 -- src/lib.rt:158:5
 loop-holds : tie.Need-loop-holds Inv-loop μ-loop
 unfolding startOf startsTo totalOf
-loop-holds c = (omega arith, refl, refl, refl)
+loop-holds c = (omega arith, refl, refl, laid-none (c .before .before .args .lent .now))
 
 -- src/lib.rt:159:19
 cast-lent : tie.Need-cast-lent Inv-loop μ-loop
@@ -63,7 +64,9 @@ same-length c = search needs
 
 -- src/lib.rt:152:1
 returns : tie.Need-returns Inv-loop μ-loop
-returns c = (c .before .loop .inv .1 ∙ start-all (c .before .before .before .before .args .masks .now) (c .before .loop .i) (omega arith), starts-done (c .before .before .before .before .args .masks .now) (c .before .before .before .before .args .lent .now) (c .before .loop .lent) (c .before .loop .i) (c .before .loop .inv .3) (omega arith))
+unfolding startsOf
+returns c = let e : c .before .loop .i ≡ length (c .before .before .before .before .args .masks .now) = omega arith in
+    (c .before .loop .inv .1 ∙ start-all (c .before .before .before .before .args .masks .now) (c .before .loop .i) (omega arith), c .before .loop .inv .3 ∙ ap (λ (n : ℕ). laid (startsTo (c .before .before .before .before .args .masks .now) n) (c .before .before .before .before .args .lent .now)) e)
 
 pub fill-starts-spec : {M : Type 1} → statement M
 fill-starts-spec =
