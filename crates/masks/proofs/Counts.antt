@@ -47,8 +47,8 @@ pub starts-fit : (masks : List ℕ) (room : ℕ) → startsRefusal masks room �
 unfolding startsRefusal
 starts-fit masks room h =
     let low =
-        is-lowest
-        (unlessOf (leb (length masks) room) 1 ∷ unlessOf (leb (length masks) linkLimit) 2 ∷ unlessOf (allMasks masks) 5 ∷ []) in
+    is-lowest
+    (unlessOf (leb (length masks) room) 1 ∷ unlessOf (leb (length masks) linkLimit) 2 ∷ unlessOf (allMasks masks) 5 ∷ []) in
     (leb-true _ _ (passed _ 1 (low .none h _ (inr (inl refl)))), leb-true _ _ (passed _ 0 (low .none h _ (inl refl))))
 
 -- an accepted damping row fits the lent memory

@@ -3,7 +3,7 @@ use Prim.Native.Nat.{ℕ, zero, suc, _+_, _*_, _≤_, _<_}
 use mathlib.Core.Path.{_≡_, refl, sym, ap, _∙_}
 use mathlib.Core.Bool.{Bool, true, false, not, _&&_}
 use native.Mathlib.Omega.{arith}
-use borrow.Author.Tests.{le-ltb}
+use borrow.Author.Tests.{lt-leb}
 use Rattle.masks.specs.Masks.{bitOf, one, isFree, dofsBelow, dofsOf}
 
 pub one-le : (b : Bool) → one b ≤ 1
@@ -20,7 +20,7 @@ below-suc m a = refl
 -- an axis above 2 is none
 pub no-axis : (m a : ℕ) → 3 ≤ a → isFree m a ≡ false
 unfolding isFree
-no-axis m a h = rw (le-ltb a 3 h)
+no-axis m a h = rw (lt-leb a 2 h)
 
 pub below-le-axis : (m a : ℕ) → dofsBelow m a ≤ a
 unfolding dofsBelow

@@ -2,7 +2,7 @@
 use Prim.Native.Nat.{ℕ, zero, suc, _+_, _/_, _%_, _^_}
 use mathlib.Core.Bool.{Bool, true, false, not, cond, _&&_}
 use mathlib.Core.List.{List, [], _∷_, _++_}
-use lib.Dec.{leb, ltb, eqb}
+use lib.Dec.{leb, eqb}
 use lib.Ieee.{Float, binary32, ofBits}
 
 abbrev pub isMask : ℕ → Bool
@@ -17,7 +17,7 @@ bitOf mask axis = eqb (mask / 2 ^ axis % 2) 1
 
 -- it is one of the three axes, and the locked mask's bit is clear
 unfoldable pub isFree : ℕ → ℕ → Bool
-isFree mask axis = ltb axis 3 && not (bitOf mask axis)
+isFree mask axis = isAxis axis && not (bitOf mask axis)
 
 abbrev pub one : Bool → ℕ
 one true = 1

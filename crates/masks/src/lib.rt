@@ -1,4 +1,5 @@
 // Masks of a joint, locked, limit and motor: bit 0 is X, bit 1 is Y, bit 2 the angle. Bits above 2 never count.
+// Inner functions take a joint's bytes and refuse nothing. Entry points take masks and axes as any number, so that none is cut.
 ghost use mathlib.Core.Path.{_≡_};
 ghost use Prim.Native.Nat.{_<_, _≤_};
 ghost use lib.ListN.{length};
@@ -6,7 +7,6 @@ ghost use Rattle.limits.specs.Limits.{linkLimit};
 ghost use Rattle.masks.specs.Masks.{isMask, isAxis, bitOf, one, isFree, dofsBelow, dofsOf, constraintsAt, dampingOf, dampingRow};
 ghost use Rattle.masks.specs.Starts.{allMasks, startsOf, totalOf};
 ghost use Rattle.masks.specs.Answers.{out, counted, laid, freeAnswer, dofsAnswer, belowAnswer, startsAnswer, dampingAnswer, constraintsAnswer};
-
 use limits::LINKS;
 use refusal::lower;
 use refusal::unless;
@@ -21,13 +21,13 @@ pub struct Count {
     pub count: u8,
 }
 
-fn is_mask(mask: u32) -> bool
+pub fn is_mask(mask: u32) -> bool
     ensures { λ r. ⌜ r ≡ isMask mask ⌝ }
 {
     mask <= 7
 }
 
-fn is_axis(axis: u32) -> bool
+pub fn is_axis(axis: u32) -> bool
     ensures { λ r. ⌜ r ≡ isAxis axis ⌝ }
 {
     axis <= 2
@@ -35,28 +35,30 @@ fn is_axis(axis: u32) -> bool
 
 // Is the mask's bit of an axis set?
 fn bit(mask: u32, axis: u32) -> bool
-    requires { ⌜ axis < 3 ⌝ }
+    requires { ⌜ axis ≤ 2 ⌝ }
     ensures { λ r. ⌜ r ≡ bitOf mask axis ⌝ }
 {
     (mask >> axis) & 1 == 1
 }
 
+// 1 if it holds, else 0.
 fn one_if(holds: bool) -> usize
     ensures { λ r. ⌜ (r ≡ one holds) × (r ≤ 1) ⌝ }
 {
     if holds { 1 } else { 0 }
 }
 
-// Is it one of the three axes, and free?
+// `is_free`, of any numbers.
 fn free(mask: u32, axis: u32) -> bool
     ensures { λ r. ⌜ r ≡ isFree mask axis ⌝ }
 {
-    if axis < 3 {
+    if is_axis(axis) {
         return !bit(mask, axis);
     }
     false
 }
 
+// `dofs_below`, of any numbers.
 fn free_below(mask: u32, axis: u32) -> usize
     ensures { λ r. ⌜ (r ≡ dofsBelow mask axis) × (r ≤ 3) ⌝ }
 {
@@ -85,7 +87,7 @@ pub fn dofs(mask: u8) -> usize
     free_below(mask as u32, 3)
 }
 
-// How many axes below an axis are free.
+// How many axes below an axis are free: the place of the axis' DoF among the joint's own.
 pub fn dofs_below(mask: u8, axis: u8) -> usize
     ensures { λ r. ⌜ r ≡ dofsBelow mask axis ⌝ }
 {
@@ -99,6 +101,7 @@ pub fn axis_damping(axis: u8) -> f32
     if axis == 2 { ANGLE_DAMPING } else { 0.0 }
 }
 
+// The count, unless there is a refusal.
 fn answer(refusal: u8, count: usize) -> Count
     requires { ⌜ count < 256 ⌝ }
     ensures { λ r. ⌜ r ≡ counted refusal count ⌝ }
@@ -135,6 +138,7 @@ pub fn dof_count_below(mask: u32, axis: u32) -> Count
     answer(refusal, free_below(mask, axis))
 }
 
+// Is each at most 7?
 fn all_masks(masks: &[u8]) -> bool
     ensures { λ r. ⌜ r ≡ allMasks (now (masks .entry)) ⌝ }
 {
@@ -162,12 +166,15 @@ fn fill_starts(masks: &[u8], lent: &mut [u8]) -> usize
     start
 }
 
-// The start of each mask of a bare list, a byte each, and their total.
+// The start of each mask of a bare list, a byte each, and the total. Any mask may come first: a bare list has no root.
 pub fn starts(masks: &[u8], lent: &mut [u8]) -> Count
     ensures { λ r. ⌜ out r (now (lent .exit)) ≡ startsAnswer (now (masks .entry)) (now (lent .entry)) ⌝ }
 {
     let n = masks.len();
-    let refusal = lower(unless(n <= lent.len(), 1), lower(unless(n <= LINKS, 2), unless(all_masks(masks), 5)));
+    let refusal = lower(
+        unless(n <= lent.len(), 1),
+        lower(unless(n <= LINKS, 2), unless(all_masks(masks), 5)),
+    );
     if refusal == 0 {
         return answer(0, fill_starts(masks, lent));
     }
@@ -203,7 +210,7 @@ pub fn default_damping(mask: u32, lent: &mut [f32]) -> Count
 
 // One for the axis' limit bit and one for its motor bit, if the axis is free.
 fn constraints_at(locked: u32, limit: u32, motor: u32, axis: u32) -> usize
-    requires { ⌜ axis < 3 ⌝ }
+    requires { ⌜ axis ≤ 2 ⌝ }
     ensures { λ r. ⌜ (r ≡ constraintsAt locked limit motor axis) × (r ≤ 2) ⌝ }
 {
     let moves = free(locked, axis);
@@ -214,7 +221,10 @@ fn constraints_at(locked: u32, limit: u32, motor: u32, axis: u32) -> usize
 pub fn num_velocity_constraints(locked: u32, limit: u32, motor: u32) -> Count
     ensures { λ r. ⌜ r ≡ constraintsAnswer locked limit motor ⌝ }
 {
-    let refusal = lower(unless(is_mask(locked), 5), lower(unless(is_mask(limit), 5), unless(is_mask(motor), 5)));
+    let refusal = lower(
+        unless(is_mask(locked), 5),
+        lower(unless(is_mask(limit), 5), unless(is_mask(motor), 5)),
+    );
     let x = constraints_at(locked, limit, motor, 0);
     let y = constraints_at(locked, limit, motor, 1);
     let angle = constraints_at(locked, limit, motor, 2);

@@ -1,17 +1,13 @@
+-- `axis_damping` tests for the angle, and its two constants have the bits that the definition states. Assumes nothing.
 use borrow.Author.Tests.{eq-eqb, ne-eqb}
 use Rattle.masks.specs.Masks.{dampingOf}
-use borrow.Author.Needs.{needs}
 use Rattle.masks.proofs.axis_damping.Statement.{statement}
 use Rattle.masks.proofs.axis_damping.Tie as tie
-use Rattle.masks.proofs.axis_damping.Reads as reads
-use Rattle.masks.proofs.axis_damping.Lts as lts
 
--- src/lib.rt:97:1
 returns : tie.Need-returns
 unfolding dampingOf
 returns c = rw (eq-eqb _ _ (c .if1 .taken))
 
--- src/lib.rt:97:1
 returns-2 : tie.Need-returns-2
 unfolding dampingOf
 returns-2 c = rw (ne-eqb _ _ (c .if1 .left))

@@ -1,25 +1,24 @@
-use borrow.Author.Tests.{lt-ltb, le-ltb}
-use Rattle.masks.specs.Masks.{isFree}
+-- `free` tests for one of the three axes, then its bit. Assumes nothing.
+use mathlib.Core.Path.{_∙_, sym}
+use borrow.Author.Tests.{leb-true}
 use borrow.Author.Needs.{needs}
+use Rattle.masks.specs.Masks.{isFree}
 use Rattle.masks.proofs.free.Statement.{statement}
 use Rattle.masks.proofs.free.Tie as tie
-use Rattle.masks.proofs.free.Reads as reads
-use Rattle.masks.proofs.free.Lts as lts
-use Rattle.masks.proofs.bit.Reads as bit-reads
 
--- src/lib.rt:56:17
+is-axis-requires : tie.Need-is-axis-requires
+is-axis-requires c κs = search needs
+
 bit-requires : tie.Need-bit-requires
-bit-requires c κs = search needs
+bit-requires c κs = leb-true _ _ (sym (c .before .is-axis .ensures) ∙ c .if1 .taken)
 
--- src/lib.rt:56:9
 returns : tie.Need-returns
 unfolding isFree
-returns c = rw (lt-ltb _ _ (c .before .if1 .taken), c .bit .ensures)
+returns c = rw (sym (c .before .before .is-axis .ensures) ∙ c .before .if1 .taken, c .bit .ensures)
 
--- src/lib.rt:52:1
 returns-2 : tie.Need-returns-2
 unfolding isFree
-returns-2 c = rw (le-ltb _ _ (c .if1 .left))
+returns-2 c = rw (sym (c .before .is-axis .ensures) ∙ c .if1 .left)
 
 pub free-spec : {M : Type 1} → statement M
-free-spec = tie.close (tie.spec bit-requires returns returns-2)
+free-spec = tie.close (tie.spec is-axis-requires bit-requires returns returns-2)

@@ -1,62 +1,46 @@
-use Rattle.masks.proofs.Laws.{below-any, below-first, below-second, below-third}
+-- `free_below`: each arm of the match is the law for its axis. Assumes nothing.
 use native.Mathlib.Omega.{arith}
 use borrow.Author.Needs.{needs}
+use Rattle.masks.proofs.Laws.{below-any, below-first, below-second, below-third}
 use Rattle.masks.proofs.free_below.Statement.{statement}
 use Rattle.masks.proofs.free_below.Tie as tie
-use Rattle.masks.proofs.free_below.Reads as reads
-use Rattle.masks.proofs.free_below.Lts as lts
-use Rattle.masks.proofs.free.Reads as free-reads
-use Rattle.masks.proofs.one_if.Reads as one-if-reads
 
--- src/lib.rt:64:20
 free-requires : tie.Need-free-requires
 free-requires c κs = search needs
 
--- src/lib.rt:64:9
 one-if-requires : tie.Need-one-if-requires
 one-if-requires c κs = search needs
 
--- src/lib.rt:65:20
 free-requires-2 : tie.Need-free-requires-2
 free-requires-2 c κs = search needs
 
--- src/lib.rt:65:9
 one-if-requires-2 : tie.Need-one-if-requires-2
 one-if-requires-2 c κs = search needs
 
--- src/lib.rt:66:24
 free-requires-3 : tie.Need-free-requires-3
 free-requires-3 c κs = search needs
 
--- src/lib.rt:66:9
 one-if-requires-3 : tie.Need-one-if-requires-3
 one-if-requires-3 c κs = search needs
 
--- src/lib.rt:70:14
 add-result : tie.Need-add-result
 add-result c = search needs
 
--- src/lib.rt:71:14
 add-result-2 : tie.Need-add-result-2
 add-result-2 c = search needs
 
--- src/lib.rt:71:14
 add-result-3 : tie.Need-add-result-3
 add-result-3 c = search needs
 
--- src/lib.rt:61:1
 returns : tie.Need-returns
 returns c = (below-first _ _ (c .match .keys1), omega arith)
 
--- src/lib.rt:61:1
 returns-2 : tie.Need-returns-2
 returns-2 c = (below-second _ _ (c .match .keys2) (cc), omega arith)
 
--- src/lib.rt:61:1
 returns-3 : tie.Need-returns-3
 returns-3 c = (below-third _ _ (c .match .keys3) (cc) (cc), omega arith)
 
--- src/lib.rt:61:1
 returns-4 : tie.Need-returns-4
 returns-4 c = (below-any _ _ (c .match .rest .0 .0 .1) (c .match .rest .0 .1) (c .match .rest .1) (cc) (cc) (cc), omega arith)
 
