@@ -1,5 +1,6 @@
 -- What the entry points answer: a refusal and a zero count, or 0 and what was counted.
 use Prim.Native.Nat.{ℕ, zero, suc}
+use mathlib.Core.Bool.{_&&_}
 use mathlib.Core.List.{List, [], _∷_, _++_}
 use lib.Dec.{leb}
 use lib.ListN.{length, drop}
@@ -34,7 +35,7 @@ filled (suc k) n row lent = out (counted (suc k) n) lent
 
 -- is an axis of a mask free?
 unfoldable pub freeAnswer : ℕ → ℕ → Count
-freeAnswer mask axis = counted (lowest (unlessOf (isMask mask) 5 ∷ unlessOf (isAxis axis) 5 ∷ [])) (one (isFree mask axis))
+freeAnswer mask axis = counted (lowest (unlessOf (isMask mask && isAxis axis) 5 ∷ [])) (one (isFree mask axis))
 
 -- the DoF count
 unfoldable pub dofsAnswer : ℕ → Count
@@ -42,7 +43,7 @@ dofsAnswer mask = counted (lowest (unlessOf (isMask mask) 5 ∷ [])) (dofsOf mas
 
 -- the DoFs below an axis
 unfoldable pub belowAnswer : ℕ → ℕ → Count
-belowAnswer mask axis = counted (lowest (unlessOf (isMask mask) 5 ∷ unlessOf (isAxis axis) 5 ∷ [])) (dofsBelow mask axis)
+belowAnswer mask axis = counted (lowest (unlessOf (isMask mask && isAxis axis) 5 ∷ [])) (dofsBelow mask axis)
 
 -- the starts of a bare list, a place each, and their total
 unfoldable pub startsRefusal : List ℕ → ℕ → ℕ
@@ -66,5 +67,4 @@ dampingAnswer mask lent = filled (dampingRefusal mask (length lent)) (dofsOf mas
 -- `num_velocity_constraints`
 unfoldable pub constraintsAnswer : ℕ → ℕ → ℕ → Count
 constraintsAnswer locked limit motor =
-    counted (lowest (unlessOf (isMask locked) 5 ∷ unlessOf (isMask limit) 5 ∷ unlessOf (isMask motor) 5 ∷ []))
-    (constraintsOf locked limit motor)
+    counted (lowest (unlessOf (isMask locked && isMask limit && isMask motor) 5 ∷ [])) (constraintsOf locked limit motor)
