@@ -3,7 +3,7 @@ use native.Mathlib.Omega.{arith}
 use mathlib.Core.Path.{_∙_, sym}
 use borrow.Author.Needs.{needs}
 use Rattle.masks.specs.Answers.{dampingAnswer}
-use Rattle.masks.proofs.Counts.{damping-fits, filled-none, filled-some}
+use Rattle.masks.proofs.Answers.{damping-fits, filled-none, filled-some}
 use Rattle.masks.proofs.Laws.{dofs-le}
 use Rattle.masks.proofs.default_damping.Statement.{statement}
 use Rattle.masks.proofs.default_damping.Tie as tie

@@ -1,6 +1,6 @@
 -- What the entry points answer, refused or not, and what a passed list of refusals says. Assumes nothing.
 use Prim.Native.Nat.{ℕ, zero, suc, _≤_}
-use mathlib.Core.Path.{_≡_, refl, ap}
+use mathlib.Core.Path.{_≡_, refl}
 use mathlib.Core.Bool.{Bool, true, false}
 use mathlib.Core.Logic.{inl, inr}
 use mathlib.Core.List.{List, [], _∷_}
@@ -9,12 +9,12 @@ use borrow.Author.Tests.{leb-true}
 use lib.Dec.{leb}
 use lib.ListN.{length}
 use Rattle.limits.specs.Limits.{linkLimit}
-use Rattle.refusal.specs.Refusal.{unlessOf, lowest}
+use Rattle.refusal.specs.Refusal.{unlessOf}
 use Rattle.refusal.proofs.Laws.{is-lowest}
 use Rattle.masks.specs.declared.Count.{Count}
 use Rattle.masks.specs.Masks.{isMask, dofsOf}
 use Rattle.masks.specs.Starts.{allMasks}
-use Rattle.masks.specs.Answers.{counted, laid, Outcome, out, filled, startsRefusal, dampingRefusal}
+use Rattle.masks.specs.Answers.{counted, laid, out, filled, startsRefusal, dampingRefusal}
 
 pub counted-none : (k n : ℕ) → k ≡ 0 → record { refusal = 0; count = n } ≡ counted k n
 unfolding counted
