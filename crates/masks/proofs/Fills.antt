@@ -5,7 +5,7 @@ use mathlib.Core.Bool.{Bool, true, false, cond}
 use mathlib.Core.List.{List, [], _∷_, _++_, append-assoc, append-nil}
 use native.Mathlib.Omega.{arith}
 use native.Mathlib.Numerals.{add-one}
-use lib.ListN.{length, drop, getD, set, length-append, length-set}
+use lib.ListN.{length, set, length-append, length-set}
 use lib.Seq.{drop-cons, set-at}
 use lib.Ieee.{Float, nan}
 use Rattle.masks.specs.Masks.{one, isFree, dofsBelow, dampingOf, dampingBelow}
@@ -40,7 +40,8 @@ damping-suc : (m a : ℕ) → dampingBelow m (suc a) ≡ dampingBelow m a ++ con
 unfolding dampingBelow
 damping-suc m a = refl
 
-length-damping : (m a : ℕ) → length (dampingBelow m a) ≡ dofsBelow m a
+-- an entry for each DoF
+pub length-damping : (m a : ℕ) → length (dampingBelow m a) ≡ dofsBelow m a
 unfolding dampingBelow dofsBelow
 length-damping m zero = refl
 length-damping m (suc a) = simp length-append (omega (arith, length-damping m a, entries (isFree m a)))

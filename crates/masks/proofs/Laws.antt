@@ -1,10 +1,10 @@
 -- How many axes are free, for callers: at most three in all, and below a free axis fewer than in all. Assumes nothing.
-use Prim.Native.Nat.{ℕ, zero, suc, _+_, _*_, _≤_, _<_}
-use mathlib.Core.Path.{_≡_, refl, sym, ap, _∙_}
-use mathlib.Core.Bool.{Bool, true, false, not, _&&_}
+use Prim.Native.Nat.{ℕ, zero, suc, _+_, _≤_, _<_}
+use mathlib.Core.Path.{_≡_, refl, ap}
+use mathlib.Core.Bool.{Bool, true, false}
 use native.Mathlib.Omega.{arith}
 use borrow.Author.Tests.{lt-leb}
-use Rattle.masks.specs.Masks.{bitOf, one, isFree, dofsBelow, dofsOf}
+use Rattle.masks.specs.Masks.{one, isFree, dofsBelow, dofsOf}
 
 pub one-le : (b : Bool) → one b ≤ 1
 one-le true = omega arith

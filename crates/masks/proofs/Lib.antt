@@ -1,5 +1,5 @@
 pub mod Laws
 pub mod Totals
 pub mod Fills
-pub mod Counts
+pub mod Answers
 pub mod Tests

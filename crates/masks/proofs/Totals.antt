@@ -1,13 +1,13 @@
 -- Starts in a list of masks of any length: each is the one before it and that one's DoFs, and all of them lie within the total. Assumes nothing.
 use Prim.Native.Nat.{ℕ, zero, suc, _+_, _*_, _≤_, _<_}
-use mathlib.Core.Path.{_≡_, refl, sym, ap, _∙_}
+use mathlib.Core.Path.{_≡_, refl, ap, _∙_}
 use mathlib.Core.Logic.{inl, inr}
 use mathlib.Core.List.{List, [], _∷_, _++_}
 use native.Mathlib.Nat.{eq-or-lt-of-le}
 use native.Mathlib.Omega.{arith}
 use native.Mathlib.Numerals.{add-one}
-use lib.ListN.{length, take, drop, getD, set, length-append, List·getD-append}
-use lib.Seq.{take-suc, take-all, drop-cons, set-at, getD-at}
+use lib.ListN.{length, take, getD, length-append, List·getD-append}
+use lib.Seq.{take-suc, take-all, getD-at}
 use Rattle.masks.specs.Masks.{dofsOf}
 use Rattle.masks.specs.Starts.{totalOf, startOf, startsTo, startsOf}
 use Rattle.masks.proofs.Laws.{dofs-le}
@@ -23,7 +23,7 @@ unfolding totalOf
 total-le [] = omega arith
 total-le (m ∷ ms) = omega (arith, dofs-le m, total-le ms)
 
--- the start after a mask's own
+-- one mask more: the next start lies its DoFs further on
 pub start-next : (ms : List ℕ) (i d : ℕ) → i < length ms → startOf ms (i + 1) ≡ startOf ms i + dofsOf (getD ms i d)
 unfolding startOf
 start-next ms i d h = rw (add-one, take-suc ms i d) (total-snoc (take i ms) (getD ms i d))
@@ -56,10 +56,14 @@ unfolding startsTo
 length-startsTo ms zero = refl
 length-startsTo ms (suc i) = simp length-append (omega (arith, length-startsTo ms i))
 
--- the entry of mask i is its start
+pub length-starts : (ms : List ℕ) → length (startsOf ms) ≡ length ms
+unfolding startsOf
+length-starts ms = length-startsTo ms (length ms)
+
 same : {i n : ℕ} → suc i ≡ suc n → i ≡ n
 same e = omega arith
 
+-- the entry of mask i is its start
 pub starts-at : (ms : List ℕ) (n i d : ℕ) → i < n → getD (startsTo ms n) i d ≡ startOf ms i
 unfolding startsTo
 starts-at ms zero i d h = absurd (omega arith)

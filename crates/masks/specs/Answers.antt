@@ -1,5 +1,6 @@
 -- What the entry points answer: a refusal and a zero count, or 0 and what was counted.
 use Prim.Native.Nat.{ℕ, zero, suc}
+use mathlib.Core.Bool.{_&&_}
 use mathlib.Core.List.{List, [], _∷_, _++_}
 use lib.Dec.{leb}
 use lib.ListN.{length, drop}
@@ -32,19 +33,19 @@ unfoldable pub filled : {A : Type 0} → ℕ → ℕ → List A → List A → O
 filled zero n row lent = out (counted 0 n) (laid row lent)
 filled (suc k) n row lent = out (counted (suc k) n) lent
 
--- is an axis of a mask free?
+-- `free_axis`: is an axis of a mask free, 1 or 0
 unfoldable pub freeAnswer : ℕ → ℕ → Count
-freeAnswer mask axis = counted (lowest (unlessOf (isMask mask) 5 ∷ unlessOf (isAxis axis) 5 ∷ [])) (one (isFree mask axis))
+freeAnswer mask axis = counted (lowest (unlessOf (isMask mask && isAxis axis) 5 ∷ [])) (one (isFree mask axis))
 
--- the DoF count
+-- `dof_count`: the DoFs of a mask
 unfoldable pub dofsAnswer : ℕ → Count
 dofsAnswer mask = counted (lowest (unlessOf (isMask mask) 5 ∷ [])) (dofsOf mask)
 
--- the DoFs below an axis
+-- `dof_count_below`: the DoFs of a mask below an axis
 unfoldable pub belowAnswer : ℕ → ℕ → Count
-belowAnswer mask axis = counted (lowest (unlessOf (isMask mask) 5 ∷ unlessOf (isAxis axis) 5 ∷ [])) (dofsBelow mask axis)
+belowAnswer mask axis = counted (lowest (unlessOf (isMask mask && isAxis axis) 5 ∷ [])) (dofsBelow mask axis)
 
--- the starts of a bare list, a place each, and their total
+-- what refuses `starts`: too little room for a place a mask, more masks than an arm has links, one that is none
 unfoldable pub startsRefusal : List ℕ → ℕ → ℕ
 startsRefusal masks room =
     lowest
@@ -53,18 +54,19 @@ startsRefusal masks room =
     ∷ unlessOf (allMasks masks) 5
     ∷ [])
 
+-- `starts`: the start of each mask of a bare list, and the total
 unfoldable pub startsAnswer : List ℕ → List ℕ → Outcome ℕ
 startsAnswer masks lent = filled (startsRefusal masks (length lent)) (totalOf masks) (startsOf masks) lent
 
--- the default damping row, a place for each DoF
+-- what refuses `default_damping`: too little room for a place a DoF, a mask that is none
 unfoldable pub dampingRefusal : ℕ → ℕ → ℕ
 dampingRefusal mask room = lowest (unlessOf (leb (dofsOf mask) room) 1 ∷ unlessOf (isMask mask) 5 ∷ [])
 
+-- `default_damping`: the default damping row, and its length
 unfoldable pub dampingAnswer : ℕ → List Float → Outcome Float
 dampingAnswer mask lent = filled (dampingRefusal mask (length lent)) (dofsOf mask) (dampingRow mask) lent
 
--- `num_velocity_constraints`
+-- `num_velocity_constraints`: the velocity constraints of a joint
 unfoldable pub constraintsAnswer : ℕ → ℕ → ℕ → Count
 constraintsAnswer locked limit motor =
-    counted (lowest (unlessOf (isMask locked) 5 ∷ unlessOf (isMask limit) 5 ∷ unlessOf (isMask motor) 5 ∷ []))
-    (constraintsOf locked limit motor)
+    counted (lowest (unlessOf (isMask locked && isMask limit && isMask motor) 5 ∷ [])) (constraintsOf locked limit motor)

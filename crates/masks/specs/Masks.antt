@@ -5,9 +5,11 @@ use mathlib.Core.List.{List, [], _∷_, _++_}
 use lib.Dec.{leb, eqb}
 use lib.Ieee.{Float, binary32, ofBits}
 
+-- a mask is at most 7
 abbrev pub isMask : ℕ → Bool
 isMask mask = leb mask 7
 
+-- an axis is at most 2
 abbrev pub isAxis : ℕ → Bool
 isAxis axis = leb axis 2
 
@@ -19,6 +21,7 @@ bitOf mask axis = eqb (mask / 2 ^ axis % 2) 1
 unfoldable pub isFree : ℕ → ℕ → Bool
 isFree mask axis = isAxis axis && not (bitOf mask axis)
 
+-- 1 if it holds, else 0
 abbrev pub one : Bool → ℕ
 one true = 1
 one false = 0
@@ -32,7 +35,7 @@ dofsBelow mask (suc axis) = dofsBelow mask axis + one (isFree mask axis)
 unfoldable pub dofsOf : ℕ → ℕ
 dofsOf mask = dofsBelow mask 3
 
--- the default damping of a DoF on an axis: 0.1 on the angle
+-- the default damping of a DoF on an axis: 0.1 on the angle, else +0
 unfoldable pub dampingOf : ℕ → Float
 dampingOf axis = cond (eqb axis 2) (ofBits binary32 0x3DCC_CCCD) (ofBits binary32 0)
 
@@ -49,5 +52,6 @@ dampingRow mask = dampingBelow mask 3
 unfoldable pub constraintsAt : ℕ → ℕ → ℕ → ℕ → ℕ
 constraintsAt locked limit motor axis = one (isFree locked axis && bitOf limit axis) + one (isFree locked axis && bitOf motor axis)
 
+-- the velocity constraints of a joint
 unfoldable pub constraintsOf : ℕ → ℕ → ℕ → ℕ
 constraintsOf locked limit motor = constraintsAt locked limit motor 0 + constraintsAt locked limit motor 1 + constraintsAt locked limit motor 2

@@ -5,6 +5,7 @@ use mathlib.Core.List.{List, [], _∷_, _++_}
 use lib.ListN.{length, take}
 use Rattle.masks.specs.Masks.{isMask, dofsOf}
 
+-- each is a mask
 abbrev pub allMasks : List ℕ → Bool
 allMasks [] = true
 allMasks (m ∷ ms) = isMask m && allMasks ms

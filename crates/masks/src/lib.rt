@@ -6,7 +6,7 @@ ghost use lib.ListN.{length};
 ghost use Rattle.limits.specs.Limits.{linkLimit};
 ghost use Rattle.masks.specs.Masks.{isMask, isAxis, bitOf, one, isFree, dofsBelow, dofsOf, constraintsAt, dampingOf, dampingRow};
 ghost use Rattle.masks.specs.Starts.{allMasks, startsOf, totalOf};
-ghost use Rattle.masks.specs.Answers.{out, counted, laid, freeAnswer, dofsAnswer, belowAnswer, startsAnswer, dampingAnswer, constraintsAnswer};
+ghost use Rattle.masks.specs.Answers.{out, counted, laid, freeAnswer, dofsAnswer, belowAnswer, startsRefusal, startsAnswer, dampingRefusal, dampingAnswer, constraintsAnswer};
 use limits::LINKS;
 use refusal::lower;
 use refusal::unless;
@@ -119,7 +119,7 @@ fn answer(refusal: u8, count: usize) -> Count
 pub fn free_axis(mask: u32, axis: u32) -> Count
     ensures { λ r. ⌜ r ≡ freeAnswer mask axis ⌝ }
 {
-    let refusal = lower(unless(is_mask(mask), 5), unless(is_axis(axis), 5));
+    let refusal = unless(is_mask(mask) & is_axis(axis), 5);
     answer(refusal, one_if(free(mask, axis)))
 }
 
@@ -134,7 +134,7 @@ pub fn dof_count(mask: u32) -> Count
 pub fn dof_count_below(mask: u32, axis: u32) -> Count
     ensures { λ r. ⌜ r ≡ belowAnswer mask axis ⌝ }
 {
-    let refusal = lower(unless(is_mask(mask), 5), unless(is_axis(axis), 5));
+    let refusal = unless(is_mask(mask) & is_axis(axis), 5);
     answer(refusal, free_below(mask, axis))
 }
 
@@ -166,25 +166,31 @@ fn fill_starts(masks: &[u8], lent: &mut [u8]) -> usize
     start
 }
 
+fn starts_refusal(masks: &[u8], room: usize) -> u8
+    ensures { λ r. ⌜ r ≡ startsRefusal (now (masks .entry)) room ⌝ }
+{
+    let n = masks.len();
+    lower(
+        unless(n <= room, 1),
+        lower(unless(n <= LINKS, 2), unless(all_masks(masks), 5)),
+    )
+}
+
 // The start of each mask of a bare list, a byte each, and the total. Any mask may come first: a bare list has no root.
 pub fn starts(masks: &[u8], lent: &mut [u8]) -> Count
     ensures { λ r. ⌜ out r (now (lent .exit)) ≡ startsAnswer (now (masks .entry)) (now (lent .entry)) ⌝ }
 {
-    let n = masks.len();
-    let refusal = lower(
-        unless(n <= lent.len(), 1),
-        lower(unless(n <= LINKS, 2), unless(all_masks(masks), 5)),
-    );
+    let refusal = starts_refusal(masks, lent.len());
     if refusal == 0 {
         return answer(0, fill_starts(masks, lent));
     }
     answer(refusal, 0)
 }
 
-// The default damping of each free axis, rising, goes into the front of `lent`.
-fn fill_damping(mask: u32, lent: &mut [f32])
+// The default damping of each free axis, rising, goes into the front of `lent`; returned is how many.
+fn fill_damping(mask: u32, lent: &mut [f32]) -> usize
     requires { ⌜ dofsOf mask ≤ length (now lent) ⌝ }
-    ensures { λ _. ⌜ now (lent .exit) ≡ laid (dampingRow mask) (now (lent .entry)) ⌝ }
+    ensures { λ r. ⌜ (r ≡ dofsOf mask) × (now (lent .exit) ≡ laid (dampingRow mask) (now (lent .entry))) ⌝ }
 {
     let mut at = 0;
     for axis in 0u8..3 {
@@ -193,17 +199,25 @@ fn fill_damping(mask: u32, lent: &mut [f32])
             at += 1;
         }
     }
+    at
+}
+
+fn damping_refusal(mask: u32, room: usize) -> u8
+    ensures { λ r. ⌜ r ≡ dampingRefusal mask room ⌝ }
+{
+    lower(
+        unless(free_below(mask, 3) <= room, 1),
+        unless(is_mask(mask), 5),
+    )
 }
 
 // The default damping row of a mask: one entry for each DoF, rising.
 pub fn default_damping(mask: u32, lent: &mut [f32]) -> Count
     ensures { λ r. ⌜ out r (now (lent .exit)) ≡ dampingAnswer mask (now (lent .entry)) ⌝ }
 {
-    let n = free_below(mask, 3);
-    let refusal = lower(unless(n <= lent.len(), 1), unless(is_mask(mask), 5));
+    let refusal = damping_refusal(mask, lent.len());
     if refusal == 0 {
-        fill_damping(mask, lent);
-        return answer(0, n);
+        return answer(0, fill_damping(mask, lent));
     }
     answer(refusal, 0)
 }
@@ -221,10 +235,7 @@ fn constraints_at(locked: u32, limit: u32, motor: u32, axis: u32) -> usize
 pub fn num_velocity_constraints(locked: u32, limit: u32, motor: u32) -> Count
     ensures { λ r. ⌜ r ≡ constraintsAnswer locked limit motor ⌝ }
 {
-    let refusal = lower(
-        unless(is_mask(locked), 5),
-        lower(unless(is_mask(limit), 5), unless(is_mask(motor), 5)),
-    );
+    let refusal = unless(is_mask(locked) & is_mask(limit) & is_mask(motor), 5);
     let x = constraints_at(locked, limit, motor, 0);
     let y = constraints_at(locked, limit, motor, 1);
     let angle = constraints_at(locked, limit, motor, 2);

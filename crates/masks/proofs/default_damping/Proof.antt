@@ -1,59 +1,41 @@
 -- `default_damping`: what is accepted fits the memory and is laid over it; a refusal leaves it as it was. Assumes nothing.
-use lib.ListN.{length}
+use native.Mathlib.Omega.{arith}
+use mathlib.Core.Path.{_∙_, sym}
 use borrow.Author.Needs.{needs}
-use Rattle.masks.specs.Answers.{dampingAnswer, dampingRefusal}
-use Rattle.masks.specs.Masks.{dofsOf}
-use Rattle.masks.proofs.Counts.{damping-fits, filled-none, filled-some}
+use Rattle.masks.specs.Answers.{dampingAnswer}
+use Rattle.masks.proofs.Answers.{damping-fits, filled-none, filled-some}
+use Rattle.masks.proofs.Laws.{dofs-le}
 use Rattle.masks.proofs.default_damping.Statement.{statement}
 use Rattle.masks.proofs.default_damping.Tie as tie
 
-free-below-requires : tie.Need-free-below-requires
-free-below-requires c κs = search needs
-
-unless-requires : tie.Need-unless-requires
-unless-requires c κs = search needs
-
-is-mask-requires : tie.Need-is-mask-requires
-is-mask-requires c κs = search needs
-
-unless-requires-2 : tie.Need-unless-requires-2
-unless-requires-2 c κs = search needs
-
-lower-requires : tie.Need-lower-requires
-lower-requires c κs = search needs
+damping-refusal-requires : tie.Need-damping-refusal-requires
+damping-refusal-requires c κs = search needs
 
 fill-damping-requires : tie.Need-fill-damping-requires
-unfolding dampingRefusal dofsOf
-fill-damping-requires c κs =
-    let a = c .before .before .before .before .before .before .before .before .args in
-    damping-fits (a .mask) (length (a .lent .now)) (cc)
+fill-damping-requires c κs = damping-fits _ _ (sym (c .before .before .damping-refusal .ensures) ∙ c .before .if1 .taken)
 
 answer-requires : tie.Need-answer-requires
-answer-requires c κs = search needs
+answer-requires c κs = omega (arith, c .before .before .fill-damping .ensures .0, dofs-le (c .before .before .before .before .before .before .before .args .mask))
 
 same-length : tie.Need-same-length
 same-length c = search needs
 
 returns : tie.Need-returns
-unfolding dampingAnswer dampingRefusal dofsOf
-returns c = filled-none _ _ _ _ _ _ (cc) (cc) (c .before .before .before .fill-damping .ensures)
+unfolding dampingAnswer
+returns c = filled-none _ _ _ _ _ _ (sym (c .before .before .before .before .before .before .damping-refusal .ensures) ∙ c .before .before .before .before .before .if1 .taken) (cc) (c .before .before .before .fill-damping .ensures .1)
 
 answer-requires-2 : tie.Need-answer-requires-2
 answer-requires-2 c κs = search needs
 
 returns-2 : tie.Need-returns-2
-unfolding dampingAnswer dampingRefusal dofsOf
-returns-2 c = filled-some _ _ _ _ _ (λ z. c .before .if1 .left (cc)) (cc)
+unfolding dampingAnswer
+returns-2 c = filled-some _ _ _ _ _ (λ z. c .before .if1 .left (c .before .before .damping-refusal .ensures ∙ z)) (cc)
 
 pub default-damping-spec : {M : Type 1} → statement M
 default-damping-spec =
     tie.close
     (tie.spec
-    free-below-requires
-    unless-requires
-    is-mask-requires
-    unless-requires-2
-    lower-requires
+    damping-refusal-requires
     fill-damping-requires
     answer-requires
     same-length

@@ -1,4 +1,4 @@
--- `dof_count` has the definition's own refusals and count. Assumes nothing.
+-- `dof_count` has the definition's own refusal and count. Assumes nothing.
 use borrow.Author.Needs.{needs}
 use Rattle.masks.specs.Answers.{dofsAnswer}
 use Rattle.masks.specs.Masks.{dofsOf}

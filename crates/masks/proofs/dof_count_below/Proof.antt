@@ -1,4 +1,4 @@
--- `dof_count_below` has the definition's own refusals and count. Assumes nothing.
+-- `dof_count_below` has the definition's own refusal and count. Assumes nothing.
 use borrow.Author.Needs.{needs}
 use Rattle.masks.specs.Answers.{belowAnswer}
 use Rattle.masks.proofs.dof_count_below.Statement.{statement}
@@ -7,17 +7,11 @@ use Rattle.masks.proofs.dof_count_below.Tie as tie
 is-mask-requires : tie.Need-is-mask-requires
 is-mask-requires c κs = search needs
 
-unless-requires : tie.Need-unless-requires
-unless-requires c κs = search needs
-
 is-axis-requires : tie.Need-is-axis-requires
 is-axis-requires c κs = search needs
 
-unless-requires-2 : tie.Need-unless-requires-2
-unless-requires-2 c κs = search needs
-
-lower-requires : tie.Need-lower-requires
-lower-requires c κs = search needs
+unless-requires : tie.Need-unless-requires
+unless-requires c κs = search needs
 
 free-below-requires : tie.Need-free-below-requires
 free-below-requires c κs = search needs
@@ -34,10 +28,8 @@ dof-count-below-spec =
     tie.close
     (tie.spec
     is-mask-requires
-    unless-requires
     is-axis-requires
-    unless-requires-2
-    lower-requires
+    unless-requires
     free-below-requires
     answer-requires
     returns)

@@ -5,7 +5,7 @@ use mathlib.Core.Path.{_≡_, _∙_, sym, ap}
 use Prim.Native.Nat.{_-_, _≤_, ℕ}
 use borrow.Author.Needs.{needs}
 use Rattle.masks.specs.Answers.{laid}
-use Rattle.masks.specs.Masks.{dampingBelow, dampingRow}
+use Rattle.masks.specs.Masks.{dofsBelow, dofsOf, dampingBelow, dampingRow}
 use Rattle.masks.proofs.Fills.{Damped, damped-none, damped-free, damped-locked}
 use Rattle.masks.proofs.Laws.{below-free, dofs-le}
 use Rattle.masks.proofs.fill_damping.Statement.{statement}
@@ -70,12 +70,14 @@ same-length : tie.Need-same-length Inv-loop μ-loop
 same-length c = search needs
 
 returns : tie.Need-returns Inv-loop μ-loop
-unfolding dampingRow
+unfolding dampingRow dofsOf
 returns c =
     let k = c .before .loop in
     let a = c .before .before .before .args in
-    let e : k .axis ≡ 3 = omega arith in
-    k .inv .1 .row ∙ ap (λ (n : ℕ). laid (dampingBelow (a .mask) n) (a .lent .now)) e
+    let e : k .axis ≡ 3 = omega arith in (
+      k .inv .1 .place ∙ ap (λ (n : ℕ). dofsBelow (a .mask) n) e,
+      k .inv .1 .row ∙ ap (λ (n : ℕ). laid (dampingBelow (a .mask) n) (a .lent .now)) e,
+    )
 
 pub fill-damping-spec : {M : Type 1} → statement M
 fill-damping-spec =

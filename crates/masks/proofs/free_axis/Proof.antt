@@ -1,4 +1,4 @@
--- `free_axis` has the definition's own refusals and answer. Assumes nothing.
+-- `free_axis` has the definition's own refusal and answer. Assumes nothing.
 use borrow.Author.Needs.{needs}
 use Rattle.masks.specs.Answers.{freeAnswer}
 use Rattle.masks.proofs.free_axis.Statement.{statement}
@@ -7,17 +7,11 @@ use Rattle.masks.proofs.free_axis.Tie as tie
 is-mask-requires : tie.Need-is-mask-requires
 is-mask-requires c κs = search needs
 
-unless-requires : tie.Need-unless-requires
-unless-requires c κs = search needs
-
 is-axis-requires : tie.Need-is-axis-requires
 is-axis-requires c κs = search needs
 
-unless-requires-2 : tie.Need-unless-requires-2
-unless-requires-2 c κs = search needs
-
-lower-requires : tie.Need-lower-requires
-lower-requires c κs = search needs
+unless-requires : tie.Need-unless-requires
+unless-requires c κs = search needs
 
 free-requires : tie.Need-free-requires
 free-requires c κs = search needs
@@ -37,10 +31,8 @@ free-axis-spec =
     tie.close
     (tie.spec
     is-mask-requires
-    unless-requires
     is-axis-requires
-    unless-requires-2
-    lower-requires
+    unless-requires
     free-requires
     one-if-requires
     answer-requires

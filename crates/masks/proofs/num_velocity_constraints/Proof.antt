@@ -1,4 +1,4 @@
--- `num_velocity_constraints` has the definition's own refusals and sum. Assumes nothing.
+-- `num_velocity_constraints` has the definition's own refusal and sum. Assumes nothing.
 use borrow.Author.Needs.{needs}
 use Rattle.masks.specs.Answers.{constraintsAnswer}
 use Rattle.masks.specs.Masks.{constraintsOf}
@@ -8,26 +8,14 @@ use Rattle.masks.proofs.num_velocity_constraints.Tie as tie
 is-mask-requires : tie.Need-is-mask-requires
 is-mask-requires c κs = search needs
 
-unless-requires : tie.Need-unless-requires
-unless-requires c κs = search needs
-
 is-mask-requires-2 : tie.Need-is-mask-requires-2
 is-mask-requires-2 c κs = search needs
-
-unless-requires-2 : tie.Need-unless-requires-2
-unless-requires-2 c κs = search needs
 
 is-mask-requires-3 : tie.Need-is-mask-requires-3
 is-mask-requires-3 c κs = search needs
 
-unless-requires-3 : tie.Need-unless-requires-3
-unless-requires-3 c κs = search needs
-
-lower-requires : tie.Need-lower-requires
-lower-requires c κs = search needs
-
-lower-requires-2 : tie.Need-lower-requires-2
-lower-requires-2 c κs = search needs
+unless-requires : tie.Need-unless-requires
+unless-requires c κs = search needs
 
 constraints-at-requires : tie.Need-constraints-at-requires
 constraints-at-requires c κs = search needs
@@ -56,13 +44,9 @@ num-velocity-constraints-spec =
     tie.close
     (tie.spec
     is-mask-requires
-    unless-requires
     is-mask-requires-2
-    unless-requires-2
     is-mask-requires-3
-    unless-requires-3
-    lower-requires
-    lower-requires-2
+    unless-requires
     constraints-at-requires
     constraints-at-requires-2
     constraints-at-requires-3

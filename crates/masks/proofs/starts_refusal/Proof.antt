@@ -1,0 +1,39 @@
+-- `starts_refusal` has the definition's own tests and numbers. Assumes nothing.
+use borrow.Author.Needs.{needs}
+use Rattle.masks.specs.Answers.{startsRefusal}
+use Rattle.masks.proofs.starts_refusal.Statement.{statement}
+use Rattle.masks.proofs.starts_refusal.Tie as tie
+
+unless-requires : tie.Need-unless-requires
+unless-requires c κs = search needs
+
+unless-requires-2 : tie.Need-unless-requires-2
+unless-requires-2 c κs = search needs
+
+all-masks-requires : tie.Need-all-masks-requires
+all-masks-requires c κs = search needs
+
+unless-requires-3 : tie.Need-unless-requires-3
+unless-requires-3 c κs = search needs
+
+lower-requires : tie.Need-lower-requires
+lower-requires c κs = search needs
+
+lower-requires-2 : tie.Need-lower-requires-2
+lower-requires-2 c κs = search needs
+
+returns : tie.Need-returns
+unfolding startsRefusal
+returns c = cc
+
+pub starts-refusal-spec : {M : Type 1} → statement M
+starts-refusal-spec =
+    tie.close
+    (tie.spec
+    unless-requires
+    unless-requires-2
+    all-masks-requires
+    unless-requires-3
+    lower-requires
+    lower-requires-2
+    returns)
