@@ -1,0 +1,6 @@
+pub mod Tables
+pub mod Parents
+pub mod Split
+pub mod Numbered
+pub mod Answers
+pub mod Words

@@ -1,0 +1,1 @@
+-- The words of the theorems about branches, marks and splits.
