@@ -1,4 +1,5 @@
 pub mod Tables
+pub mod Above
 pub mod Parents
 pub mod Split
 pub mod Numbered

@@ -1,0 +1,4 @@
+pub mod Small
+pub mod Tables
+pub mod Fitting
+pub mod Branch
