@@ -4,18 +4,19 @@ use mathlib.Core.Path.{_≡_, refl, sym, ap, _∙_}
 use mathlib.Core.Bool.{Bool, true, false, cond, not, _||_, _&&_}
 use mathlib.Core.List.{List, [], _∷_, _++_}
 use native.Mathlib.Omega.{arith}
+use native.Mathlib.Numerals.{add-one}
 use native.Mathlib.Decide.{decLt}
 use borrow.Author.Tests.{eqb-false, not-true}
-use lib.ListN.{length}
+use lib.ListN.{length, take, getD, set}
 use lib.Dec.{eqb}
 use Rattle.topology.specs.declared.Split.{Split}
 use Rattle.topology.specs.declared.Split.the-variants.{Delete, Cut}
-use Rattle.topology.specs.Tables.{countBelow, lastThat}
+use Rattle.topology.specs.Tables.{each, countBelow, lastThat}
 use Rattle.topology.specs.Parents.{parentOf, parentsFit, branch}
-use Rattle.topology.specs.Split.{survives, headOf, isHead, rank, partCount, nearestHead, partOf}
+use Rattle.topology.specs.Split.{survives, headOf, isHead, rank, partCount, nearestHead, partOf, gone, partByte}
 use Rattle.topology.specs.Words.{Survivor}
 use Rattle.topology.proofs.Small.{differ, or-right, and-left}
-use Rattle.topology.proofs.Tables.{count-lt, last-snoc}
+use Rattle.topology.proofs.Tables.{Filled, filled-none, filled-more, filled-at, count-le, count-lt, last-snoc}
 use Rattle.topology.proofs.Fitting.{earlier}
 use Rattle.topology.proofs.Branch.{branch-alone, branch-more}
 
@@ -96,3 +97,46 @@ module _ (ps : List ℕ) (s : Split) where
       by-parents fit (λ j. partOf ps s j < partCount ps s)
       (λ j v h. rw (part-head j (v .0) h) (count-lt (isHead ps s) j (length ps) (v .0) h))
       (λ j v h ih. rw (part-body fit j (v .0) (v .1) h) ih)
+
+  -- ---- one rising pass over a table l₀ that is long enough: the first j links have their parts, and the heads among them are counted
+
+  pub record Passed (l₀ : List ℕ) (j : ℕ) (l : List ℕ) (count : ℕ) : Type 0 where
+    pub counted : count ≡ rank ps s j
+    pub filled : Filled (partByte ps s) l₀ j l
+
+  pub passed-none : (l₀ : List ℕ) → Passed l₀ 0 l₀ 0
+  unfolding rank countBelow
+  passed-none l₀ = record { counted = refl; filled = filled-none (partByte ps s) l₀ }
+
+  pub rank-le : (j : ℕ) → rank ps s j ≤ j
+  unfolding rank
+  rank-le j = count-le (isHead ps s) j
+
+  module _ (l₀ : List ℕ) (long : length ps ≤ length l₀) (j : ℕ) (h : j < length ps) (l : List ℕ) (count : ℕ) (t : Passed l₀ j l count) where
+    pub passed-head : isHead ps s j ≡ true → Passed l₀ (j + 1) (set l j count) (count + 1)
+    unfolding rank countBelow partByte isHead
+    passed-head e = record {
+      counted = rw (add-one count, add-one j, t .counted, e);
+      filled = filled-more (partByte ps s) l₀ j l count (omega arith) (t .filled) (t .counted ∙ sym (rw (head-survives s j (parentOf ps j) e) (part-head j h e)));
+    }
+
+    pub passed-body : parentsFit ps ≡ true → isHead ps s j ≡ false → survives s j ≡ true → Passed l₀ (j + 1) (set l j (getD l (parentOf ps j) 0)) count
+    unfolding rank countBelow partByte
+    passed-body fit e a =
+        let p = parent-earlier fit j h a e in
+        let above : getD l (parentOf ps j) 0 ≡ partByte ps s j = filled-at (partByte ps s) l₀ j l (parentOf ps j) 0 (t .filled) p ∙ rw (a, parent-survives fit j h a e) (sym (part-body fit j h a e)) in
+        record {
+          counted = rw (add-one j, t .counted, e);
+          filled = filled-more (partByte ps s) l₀ j l (getD l (parentOf ps j) 0) (omega arith) (t .filled) above;
+        }
+
+    pub passed-gone : isHead ps s j ≡ false → survives s j ≡ false → Passed l₀ (j + 1) (set l j gone) count
+    unfolding rank countBelow partByte
+    passed-gone e a = record {
+      counted = rw (add-one j, t .counted, e);
+      filled = filled-more (partByte ps s) l₀ j l gone (omega arith) (t .filled) (rw a);
+    }
+
+  pub passed-all : (l₀ : List ℕ) (j : ℕ) (l : List ℕ) (count : ℕ) → Passed l₀ j l count → j ≡ length ps → (count ≡ partCount ps s) × (take (length ps) l ≡ each (length ps) (partByte ps s))
+  unfolding rank partCount
+  passed-all l₀ j l count t e = (rw e at (t .counted), rw e at (t .filled .front))

@@ -183,7 +183,7 @@ fn parts_of(parents: &[u8], s: Split) -> Parts
     requires { ⌜ parentsFit (now parents) ≡ true ⌝ }
     ensures { λ r. ⌜ (r .count ≡ partCount (now (parents .entry)) s) × (take (length (now (parents .entry))) (r .of) ≡ each (length (now (parents .entry))) (partByte (now (parents .entry)) s)) ⌝ }
 {
-    let mut of = [GONE; LINKS];
+    let mut of = [0u8; LINKS];
     let mut count: usize = 0;
     let mut j = 0;
     while j < parents.len() {
@@ -193,6 +193,8 @@ fn parts_of(parents: &[u8], s: Split) -> Parts
             count += 1;
         } else if is_survivor(s, j) {
             of[j] = of[p];
+        } else {
+            of[j] = GONE;
         }
         j += 1;
     }
