@@ -4,3 +4,4 @@ pub mod Fitting
 pub mod Branch
 pub mod Written
 pub mod Pass
+pub mod Mapped
