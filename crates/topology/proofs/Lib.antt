@@ -5,3 +5,4 @@ pub mod Branch
 pub mod Written
 pub mod Pass
 pub mod Mapped
+pub mod Refused
