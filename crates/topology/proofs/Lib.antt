@@ -1,0 +1,8 @@
+pub mod Small
+pub mod Tables
+pub mod Fitting
+pub mod Branch
+pub mod Written
+pub mod Pass
+pub mod Mapped
+pub mod Refused
