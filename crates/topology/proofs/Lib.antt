@@ -6,3 +6,4 @@ pub mod Written
 pub mod Pass
 pub mod Mapped
 pub mod Refused
+pub mod Theorems

@@ -61,7 +61,7 @@ loop-less c = search needs
 
 -- src/lib.rt:129:5
 loop-again : tie.Need-loop-again Inv-loop μ-loop
-loop-again c = 
+loop-again c =
     let ps = c .before .before .before .before .before .before .args .parents .now in
     let i = c .before .before .before .before .before .before .args .link in
     let j = c .before .before .before .loop .j in

@@ -25,7 +25,7 @@ returns c = branch-refused (c .before .before .before .before .before .args .par
 
 -- src/lib.rt:109:5
 write-branch-requires : tie.Need-write-branch-requires
-write-branch-requires c κs = 
+write-branch-requires c κs =
     let a = accepted (c .before .before .before .before .before .before .args .parents .now) (c .before .before .before .before .before .before .args .link) _ (c .before .before .refusal-of .result) (c .before .before .refusal-of .ensures) (c .before .if1 .left) in
     (a .few, (c .before .before .before .branch-length .ensures, leb-true _ _ (a .room)))
 

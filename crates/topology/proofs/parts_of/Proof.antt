@@ -57,7 +57,7 @@ is-survivor-requires c κs = search needs
 -- src/lib.rt:195:21
 array-read-of : tie.Need-array-read-of Inv-loop μ-loop
 unfolding isHead
-array-read-of c = 
+array-read-of c =
     let e = sym (c .before .before .before .is-head .ensures) ∙ c .before .before .if1 .left in
     let a = sym (c .before .is-survivor .ensures) ∙ c .if2 .taken in
     let pre = c .before .before .before .before .before .before .before .before .pre in
@@ -82,7 +82,7 @@ loop-less c = search needs
 -- src/lib.rt:189:5
 loop-again : tie.Need-loop-again Inv-loop μ-loop
 unfolding isHead
-loop-again c = 
+loop-again c =
     let k = c .before .before .before .before in
     let start = k .before .before in
     let ps = start .args .parents .now in

@@ -32,13 +32,13 @@ returns c = split-refused (c .before .before .before .before .before .args .pare
 
 -- src/lib.rt:236:9
 parts-of-requires : tie.Need-parts-of-requires
-parts-of-requires c κs = 
+parts-of-requires c κs =
     let a = split-accepted (c .before .before .before .before .before .args .parents .now) (c .before .before .before .before .before .args .s) (c .before .before .before .before .before .args .map .now) (c .before .before .link-of .result) (c .before .refusal-of .result) (c .before .before .link-of .ensures) (c .before .refusal-of .ensures) (c .if1 .left) in
     (a .few, a .fit)
 
 -- src/lib.rt:238:5
 write-map-requires : tie.Need-write-map-requires
-write-map-requires c κs = 
+write-map-requires c κs =
     let a = split-accepted (c .before .before .before .before .before .before .before .before .args .parents .now) (c .before .before .before .before .before .before .before .before .args .s) (c .before .before .before .before .before .before .before .before .args .map .now) (c .before .before .before .before .before .link-of .result) (c .before .before .before .before .refusal-of .result) (c .before .before .before .before .before .link-of .ensures) (c .before .before .before .before .refusal-of .ensures) (c .before .before .before .if1 .left) in
     (a .few, leb-true _ _ (a .room))
 
@@ -48,7 +48,7 @@ same-length c = search needs
 
 -- src/lib.rt:228:1
 returns-2 : tie.Need-returns-2
-returns-2 c = 
+returns-2 c =
     let ps = c .before .before .before .before .before .before .before .before .before .before .before .args .parents .now in
     let a = split-accepted (c .before .before .before .before .before .before .before .before .before .before .before .args .parents .now) (c .before .before .before .before .before .before .before .before .before .before .before .args .s) (c .before .before .before .before .before .before .before .before .before .before .before .args .map .now) (c .before .before .before .before .before .before .before .before .link-of .result) (c .before .before .before .before .before .before .before .refusal-of .result) (c .before .before .before .before .before .before .before .before .link-of .ensures) (c .before .before .before .before .before .before .before .refusal-of .ensures) (c .before .before .before .before .before .before .if1 .left) in
     let parts = c .before .before .before .before .before .parts-of .ensures in

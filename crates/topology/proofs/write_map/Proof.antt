@@ -80,7 +80,7 @@ loop-less c = search needs
 
 -- src/lib.rt:210:5
 loop-again : tie.Need-loop-again Inv-loop μ-loop
-loop-again c = 
+loop-again c =
     let k = c .before .before in
     let qs = k .before .args .t1 in
     let map₀ = k .before .args .map .now in
@@ -99,7 +99,7 @@ same-length c = mapped-length (c .before .before .args .t1) (c .before .before .
 
 -- src/lib.rt:203:1
 returns : tie.Need-returns Inv-loop μ-loop
-returns c = 
+returns c =
     let e : c .before .loop .j ≡ c .before .before .args .n = omega arith in
     rw e at (c .before .loop .inv .1 .written)
 
