@@ -1,0 +1,69 @@
+-- Default damping as bytes: the floats' answer, with each float's bytes for the float.
+use Prim.Native.Nat.{ℕ, zero, suc, min, _+_, _*_, _/_, _≤_, _<_}
+use mathlib.Core.Path.{_≡_, refl, sym, ap, _∙_}
+use mathlib.Core.List.{List, [], _∷_, _++_, append-assoc}
+use native.Mathlib.Omega.{arith}
+use native.Mathlib.Decide.{decLt}
+use borrow.Author.Tests.{le-leb, lt-leb}
+use lib.Dec.{leb}
+use lib.ListN.{length, take, drop}
+use lib.Seq.{take-at}
+use lib.Ieee.{Float}
+use Rattle.masks.specs.declared.Count.{Count}
+use Rattle.masks.specs.Masks.{dofsOf, dampingRow}
+use Rattle.masks.specs.Answers.{Outcome, counted, laid, filled, dampingRefusal, dampingAnswer}
+use Rattle.masks.specs.Answers as masks
+use Rattle.masks.proofs.Laws.{dofs-le}
+use Rattle.masks.proofs.Fills.{length-damping}
+use Rattle.masks.proofs.Answers.{damping-fits}
+use Rattle.plugin.specs.Returns.{out, countTold, filledTold}
+use Rattle.plugin.specs.Bytes.{bytesOf, dampingBytes}
+
+-- no mask has more than three DoFs, so room for three is room enough
+same-room : (n room : ℕ) → n ≤ 3 → leb n (min room 3) ≡ leb n room
+same-room n room h = elim (decLt room n) [
+  | yes l ↦ lt-leb n (min room 3) (omega arith) ∙ sym (lt-leb n room l)
+  | no l ↦ le-leb n (min room 3) (omega arith) ∙ sym (le-leb n room (omega arith))
+]
+
+same-refusal : (mask room : ℕ) → dampingRefusal mask (min room 3) ≡ dampingRefusal mask room
+unfolding dampingRefusal
+same-refusal mask room = rw (same-room (dofsOf mask) room (dofs-le mask))
+
+length-row : (mask : ℕ) → length (dampingRow mask) ≡ dofsOf mask
+unfolding dampingRow dofsOf
+length-row mask = length-damping mask 3
+
+module _ (n : ℕ) (row old part rest : List Float) (a : Count) where
+  count-within : (k : ℕ) → masks.out a part ≡ filled k n row old → (k ≡ 0 → n ≤ length old) → a .count ≤ length old
+  unfolding filled counted
+  count-within zero e h = rw (ap (λ (o : Outcome Float). o .answer .count) e) (h refl)
+  count-within (suc k) e h = rw (ap (λ (o : Outcome Float). o .answer .count) e) (omega arith)
+
+  -- the floats that were laid over a row are written; a refusal writes none
+  as-bytes : (k : ℕ) → masks.out a part ≡ filled k n row old → length row ≡ n → (lent bytes : List ℕ)
+      → bytes ≡ laid (bytesOf (take (a .count) (part ++ rest))) lent → out (countTold a) bytes ≡ filledTold (filled k n (bytesOf row) lent)
+  unfolding filled counted laid bytesOf
+  as-bytes zero e l lent bytes q =
+      let answer : a ≡ counted 0 n = ap (λ (o : Outcome Float). o .answer) e in
+      let memory : part ≡ row ++ drop (length row) old = ap (λ (o : Outcome Float). o .memory) e in
+      let whole : take n (part ++ rest) ≡ row = ap (λ (p : List Float). take n (p ++ rest)) memory ∙ ap (take n) (append-assoc row _ rest) ∙ take-at row _ n l in
+      rw (q, answer, whole)
+  as-bytes (suc k) e l lent bytes q =
+      let answer : a ≡ counted (suc k) n = ap (λ (o : Outcome Float). o .answer) e in
+      rw (q, answer)
+
+module _ (mask : ℕ) (lent : List ℕ) (old part : List Float) (a : Count) (three : length old ≡ min (length lent / 4) 3) (e : masks.out a part ≡ dampingAnswer mask old) where
+  refusal : dampingRefusal mask (length old) ≡ dampingRefusal mask (length lent / 4)
+  refusal = ap (dampingRefusal mask) three ∙ same-refusal mask (length lent / 4)
+
+  -- what was counted fits the row, and its bytes the lent memory
+  pub count-fits : a .count ≤ length old
+  unfolding dampingAnswer
+  count-fits = count-within (dofsOf mask) (dampingRow mask) old part [] a (dampingRefusal mask (length old)) e (damping-fits mask (length old))
+
+  pub damped : (rest : List Float) (bytes : List ℕ) → bytes ≡ laid (bytesOf (take (a .count) (part ++ rest))) lent
+      → out (countTold a) bytes ≡ filledTold (dampingBytes mask lent)
+  unfolding dampingAnswer dampingBytes
+  damped rest bytes q =
+      rw (← refusal) (as-bytes (dofsOf mask) (dampingRow mask) old part rest a (dampingRefusal mask (length old)) e (length-row mask) lent bytes q)

@@ -1,0 +1,4 @@
+pub mod Signs
+pub mod Parts
+pub mod Rows
+pub mod Damping
