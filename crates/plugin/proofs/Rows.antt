@@ -66,7 +66,7 @@ laid-run p v old l new at e n q =
     let front : take at l ≡ p = ap (take at) e ∙ take-at p _ at n in
     let behind : drop at l ≡ drop at old = ap (drop at) e ∙ drop-at p _ at n ∙ ap (λ (k : ℕ). drop k old) n in
     let rest : drop (at + length v) l ≡ drop (at + length v) old =
-        sym (drop-drop (length v) at l) ∙ ap (drop (length v)) behind ∙ drop-drop (length v) at old in
+    sym (drop-drop (length v) at l) ∙ ap (drop (length v)) behind ∙ drop-drop (length v) at old in
     q ∙ rw (front, rest, length-append p v, n, append-assoc)
 
 -- the first i floats are written

@@ -6,24 +6,16 @@ use lib.IntN.{ℤ}
 use borrow.Author.Needs.{needs}
 use Rattle.plugin.proofs.giellavor_starts.Statement.{statement}
 use Rattle.plugin.proofs.giellavor_starts.Tie as tie
-use Rattle.plugin.proofs.giellavor_starts.Reads as reads
-use Rattle.plugin.proofs.giellavor_starts.Lts as lts
-use Rattle.masks.proofs.starts.Reads as starts-reads
-use Rattle.plugin.proofs.tell.Reads as tell-reads
 
--- src/lib.rt:64:9
 starts-requires : tie.Need-starts-requires
 starts-requires c κs = search needs
 
--- src/lib.rt:65:5
 tell-requires : tie.Need-tell-requires
 tell-requires c κs = search needs
 
--- src/lib.rt:60:1
 same-length : tie.Need-same-length
 same-length c = search needs
 
--- src/lib.rt:60:1
 returns : tie.Need-returns
 returns c = out-on _ _ _ _ (c .tell .ok) (c .tell .ensures) (ap filledTold (c .before .before .before .starts .ensures))
 

@@ -7,28 +7,19 @@ use lib.IntN.{ℤ}
 use borrow.Author.Needs.{needs}
 use Rattle.plugin.proofs.split.Statement.{statement}
 use Rattle.plugin.proofs.split.Tie as tie
-use Rattle.plugin.proofs.split.Reads as reads
-use Rattle.plugin.proofs.split.Lts as lts
-use Rattle.plugin.proofs.tell.Reads as tell-reads
-use Rattle.topology.proofs.split_map.Reads as split-map-reads
 
--- src/lib.rt:29:9
 split-map-requires : tie.Need-split-map-requires
 split-map-requires c κs = search needs
 
--- src/lib.rt:30:26
 cast-tell : tie.Need-cast-tell
 cast-tell c = record { fits = few-parts _ _ _ _ _ (c .before .before .before .split-map .ensures) }
 
--- src/lib.rt:30:5
 tell-requires : tie.Need-tell-requires
 tell-requires c κs = search needs
 
--- src/lib.rt:26:1
 same-length : tie.Need-same-length
 same-length c = search needs
 
--- src/lib.rt:26:1
 returns : tie.Need-returns
 returns c = out-on _ _ _ _ (c .tell .ok) (c .tell .ensures) (ap splitTold (c .before .before .before .before .split-map .ensures))
 

@@ -5,58 +5,43 @@ use native.Mathlib.Omega.{arith}
 use borrow.Author.Needs.{needs}
 use Rattle.plugin.proofs.write_bits.Statement.{statement}
 use Rattle.plugin.proofs.write_bits.Tie as tie
-use Rattle.plugin.proofs.write_bits.Reads as reads
-use Rattle.plugin.proofs.write_bits.Lts as lts
 
--- src/lib.rt:92:17
 cast-bytes : tie.Need-cast-bytes
 cast-bytes c = search needs
 
--- src/lib.rt:92:5
 slice-write-bytes : tie.Need-slice-write-bytes
 slice-write-bytes c = search needs
 
--- src/lib.rt:93:21
 cast-bytes-2 : tie.Need-cast-bytes-2
 cast-bytes-2 c = search needs
 
--- src/lib.rt:93:11
 add-bytes : tie.Need-add-bytes
 add-bytes c = search needs
 
--- src/lib.rt:93:5
 slice-write-bytes-2 : tie.Need-slice-write-bytes-2
 slice-write-bytes-2 c = simp length-set (omega arith)
 
--- src/lib.rt:94:21
 cast-bytes-3 : tie.Need-cast-bytes-3
 cast-bytes-3 c = search needs
 
--- src/lib.rt:94:11
 add-bytes-2 : tie.Need-add-bytes-2
 add-bytes-2 c = search needs
 
--- src/lib.rt:94:5
 slice-write-bytes-3 : tie.Need-slice-write-bytes-3
 slice-write-bytes-3 c = simp length-set (omega arith)
 
--- src/lib.rt:95:21
 cast-bytes-4 : tie.Need-cast-bytes-4
 cast-bytes-4 c = search needs
 
--- src/lib.rt:95:11
 add-bytes-3 : tie.Need-add-bytes-3
 add-bytes-3 c = search needs
 
--- src/lib.rt:95:5
 slice-write-bytes-4 : tie.Need-slice-write-bytes-4
 slice-write-bytes-4 c = simp length-set (omega arith)
 
--- src/lib.rt:88:1
 same-length : tie.Need-same-length
 same-length c = search needs
 
--- src/lib.rt:88:1
 returns : tie.Need-returns
 returns c = written (c .args .bytes .now) (c .args .at) (c .args .b) (c .pre)
 

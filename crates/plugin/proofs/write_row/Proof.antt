@@ -6,10 +6,6 @@ use native.Mathlib.Omega.{arith}
 use borrow.Author.Needs.{needs}
 use Rattle.plugin.proofs.write_row.Statement.{statement}
 use Rattle.plugin.proofs.write_row.Tie as tie
-use Rattle.plugin.proofs.write_row.Reads as reads
-use Rattle.plugin.proofs.write_row.Lts as lts
-use Rattle.plugin.proofs.bits.Reads as bits-reads
-use Rattle.plugin.proofs.write_bits.Reads as write-bits-reads
 
 abbrev Inv-loop : tie.InvT-loop
 Inv-loop row bytes₀ i₀ bytes i = (i ≤ length row) × Written row bytes₀ i bytes
@@ -17,47 +13,36 @@ Inv-loop row bytes₀ i₀ bytes i = (i ≤ length row) × Written row bytes₀ 
 abbrev μ-loop : tie.MeasureT-loop
 μ-loop row bytes₀ i₀ bytes i = length row - i
 
--- src/lib.rt:104:5
 loop-holds : tie.Need-loop-holds Inv-loop μ-loop
 loop-holds c = (omega arith, written-none (c .before .before .args .row .now) (c .before .before .args .bytes .now))
 
--- src/lib.rt:105:25
 mul-bits : tie.Need-mul-bits Inv-loop μ-loop
 mul-bits c = search needs
 
--- src/lib.rt:105:25
 shared-slice-read-bits : tie.Need-shared-slice-read-bits Inv-loop μ-loop
 shared-slice-read-bits c = search needs
 
--- src/lib.rt:105:20
 bits-requires : tie.Need-bits-requires Inv-loop μ-loop
 bits-requires c κs = search needs
 
--- src/lib.rt:105:41
 mul-write-bits : tie.Need-mul-write-bits Inv-loop μ-loop
 mul-write-bits c = search needs
 
--- src/lib.rt:105:9
 write-bits-requires : tie.Need-write-bits-requires Inv-loop μ-loop
 write-bits-requires c κs = omega (arith, c .before .before .before .before .loop .inv .1 .same-length)
 
--- src/lib.rt:106:9
 add-i : tie.Need-add-i Inv-loop μ-loop
 add-i c = search needs
 
--- src/lib.rt:104:5
 loop-less : tie.Need-loop-less Inv-loop μ-loop
 loop-less c = search needs
 
--- src/lib.rt:104:5
 loop-again : tie.Need-loop-again Inv-loop μ-loop
 loop-again c = (omega arith, written-more (c .before .before .before .before .before .before .before .before .before .before .args .row .now) (c .before .before .before .before .before .before .before .before .before .before .args .bytes .now) (c .before .before .before .before .before .before .before .loop .i) (c .before .before .before .before .before .before .before .loop .bytes) (c .before .before .before .before .before .before .before .loop .inv .1) (c .before .before .before .before .before .before .loop-test .taken) (c .before .before .before .before .bits .result) _ (c .before .before .before .before .bits .ensures) (c .before .bytes .given) (c .before .before .write-bits .ensures))
 
--- src/lib.rt:99:1
 same-length : tie.Need-same-length Inv-loop μ-loop
 same-length c = c .before .loop .inv .1 .same-length
 
--- src/lib.rt:99:1
 returns : tie.Need-returns Inv-loop μ-loop
 returns c = written-all (c .before .before .before .before .args .row .now) (c .before .before .before .before .args .bytes .now) (c .before .loop .i) (c .before .loop .bytes) (c .before .loop .inv .1) (omega arith)
 

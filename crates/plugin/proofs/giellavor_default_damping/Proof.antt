@@ -1,0 +1,62 @@
+use Rattle.plugin.proofs.Damping.{bytes-fit, count-fits, damped, three-long}
+use Rattle.plugin.proofs.Signs.{out-on}
+use borrow.Author.Needs.{needs}
+use Rattle.plugin.proofs.giellavor_default_damping.Statement.{statement}
+use Rattle.plugin.proofs.giellavor_default_damping.Tie as tie
+
+fewer-requires : tie.Need-fewer-requires
+fewer-requires c κs = search needs
+
+sub-default-damping : tie.Need-sub-default-damping
+sub-default-damping c = search needs
+
+part-row-start : tie.Need-part-row-start
+part-row-start c = search needs
+
+part-row-end : tie.Need-part-row-end
+part-row-end c = search needs
+
+default-damping-requires : tie.Need-default-damping-requires
+default-damping-requires c κs = search needs
+
+cast-n : tie.Need-cast-n
+cast-n c = search needs
+
+sub-write-row : tie.Need-sub-write-row
+sub-write-row c = search needs
+
+part-write-row-start : tie.Need-part-write-row-start
+part-write-row-start c = search needs
+
+part-write-row-end : tie.Need-part-write-row-end
+part-write-row-end c = count-fits (c .before .before .before .before .before .before .before .args .mask) (c .before .before .before .before .before .before .before .args .damping .now) _ _ _ (c .before .before .before .default-damping .result) (three-long _ _ _ (c .before .before .before .before .before .fewer .ensures)) (c .before .before .before .default-damping .ensures)
+
+write-row-requires : tie.Need-write-row-requires
+write-row-requires c κs = bytes-fit (c .before .before .before .before .before .before .before .before .before .args .mask) (c .before .before .before .before .before .before .before .before .before .args .damping .now) _ _ _ (c .before .before .before .before .before .default-damping .result) (three-long _ _ _ (c .before .before .before .before .before .before .before .fewer .ensures)) (c .before .before .before .before .before .default-damping .ensures)
+
+tell-requires : tie.Need-tell-requires
+tell-requires c κs = search needs
+
+same-length : tie.Need-same-length
+same-length c = search needs
+
+returns : tie.Need-returns
+returns c = out-on _ _ _ _ (c .tell .ok) (c .tell .ensures) (damped (c .before .before .before .before .before .before .before .before .before .before .before .before .before .args .mask) (c .before .before .before .before .before .before .before .before .before .before .before .before .before .args .damping .now) _ _ _ (c .before .before .before .before .before .before .before .before .before .default-damping .result) (three-long _ _ _ (c .before .before .before .before .before .before .before .before .before .before .before .fewer .ensures)) (c .before .before .before .before .before .before .before .before .before .default-damping .ensures) _ (c .before .before .before .write-row .ensures))
+
+pub giellavor-default-damping-spec : {M : Type 1} → statement M
+giellavor-default-damping-spec =
+    tie.close
+    (tie.spec
+    fewer-requires
+    sub-default-damping
+    part-row-start
+    part-row-end
+    default-damping-requires
+    cast-n
+    sub-write-row
+    part-write-row-start
+    part-write-row-end
+    write-row-requires
+    tell-requires
+    same-length
+    returns)
