@@ -1,3 +1,4 @@
+-- `giellavor_default_damping`: the answer over three floats, told, with their bytes for the floats. Assumes nothing.
 use Rattle.plugin.proofs.Damping.{bytes-fit, count-fits, damped, three-long}
 use Rattle.plugin.proofs.Signs.{out-on}
 use borrow.Author.Needs.{needs}

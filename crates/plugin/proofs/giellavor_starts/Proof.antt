@@ -1,8 +1,7 @@
 -- `giellavor_starts`: the inner call's answer, told. Assumes nothing.
 use Rattle.plugin.proofs.Signs.{out-on}
-use Rattle.plugin.specs.Returns.{filledTold, out}
-use mathlib.Core.Path.{_∙_, ap}
-use lib.IntN.{ℤ}
+use Rattle.plugin.specs.Returns.{filledTold}
+use mathlib.Core.Path.{ap}
 use borrow.Author.Needs.{needs}
 use Rattle.plugin.proofs.giellavor_starts.Statement.{statement}
 use Rattle.plugin.proofs.giellavor_starts.Tie as tie

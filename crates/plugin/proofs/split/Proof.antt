@@ -1,9 +1,8 @@
 -- `split`: the map's answer, told; there are no more parts than links. Assumes nothing.
 use Rattle.plugin.proofs.Signs.{out-on}
 use Rattle.plugin.proofs.Parts.{few-parts}
-use Rattle.plugin.specs.Returns.{out, splitTold}
-use mathlib.Core.Path.{_∙_, ap}
-use lib.IntN.{ℤ}
+use Rattle.plugin.specs.Returns.{splitTold}
+use mathlib.Core.Path.{ap}
 use borrow.Author.Needs.{needs}
 use Rattle.plugin.proofs.split.Statement.{statement}
 use Rattle.plugin.proofs.split.Tie as tie

@@ -1,0 +1,16 @@
+-- The marked examples hold of the definitions: both columns compute to the same numbers.
+use mathlib.Core.Path.{refl}
+use lib.Ieee.{ofBits, toBits}
+use Rattle.refusal.specs.Refusal.{lowerOf}
+use Rattle.topology.specs.Tables.{allBelow, countBelow, lastThat}
+use Rattle.topology.specs.Parents.{parentFits, parentsFit, wayTo, branch}
+use Rattle.topology.specs.Split.{isHead, rank, partCount, nearestHead, partOf, isIn, numberOf, partByte, numberByte, splitMap}
+use Rattle.topology.specs.Answers.{given, refusalOf, splitAnswer}
+use Rattle.masks.specs.Masks.{bitOf, isFree, dofsBelow, dofsOf, dampingOf, dampingBelow, dampingRow, constraintsAt, constraintsOf}
+use Rattle.masks.specs.Starts.{totalOf, startOf, startsTo, startsOf}
+use Rattle.masks.specs.Answers.{counted, laid, filled, startsRefusal, startsAnswer, dampingRefusal, dampingAnswer, constraintsAnswer}
+use Rattle.marked.specs.Marked.{answer, marked, Hold}
+
+pub all-hold : Hold marked
+unfolding answer lowerOf ofBits toBits allBelow countBelow lastThat parentFits parentsFit wayTo branch isHead rank partCount nearestHead partOf isIn numberOf partByte numberByte splitMap given refusalOf splitAnswer bitOf isFree dofsBelow dofsOf dampingOf dampingBelow dampingRow constraintsAt constraintsOf totalOf startOf startsTo startsOf counted laid filled startsRefusal startsAnswer dampingRefusal dampingAnswer constraintsAnswer
+all-hold = refl
