@@ -1,0 +1,88 @@
+//! Builds the proved archive with `rt staticlib plugin` where it is missing or older than what it is made of, and links it.
+
+use std::fs;
+use std::path::{Path, PathBuf};
+use std::process::{Command, exit};
+use std::time::SystemTime;
+
+const CRATE: &str = "plugin";
+
+fn main() {
+    let host = PathBuf::from(std::env::var_os("CARGO_MANIFEST_DIR").unwrap_or_default());
+    let root = host.parent().unwrap_or(&host).to_path_buf();
+    let folder = root.join("target/staticlib");
+    let archive = folder.join(format!("lib{CRATE}.a"));
+
+    let sources: Vec<PathBuf> = used(&root).iter().map(|name| root.join("crates").join(name)).collect();
+    let newest = sources.iter().filter_map(|folder| changed(folder)).max();
+    if fs::metadata(&archive).and_then(|a| a.modified()).ok() < newest {
+        build(&root);
+    }
+
+    println!("cargo::rerun-if-changed=build.rs");
+    println!("cargo::rerun-if-changed={}", archive.display());
+    println!("cargo::rerun-if-changed={}", root.join("crates.txt").display());
+    for folder in &sources {
+        println!("cargo::rerun-if-changed={}", folder.display());
+    }
+    println!("cargo::rustc-link-search=native={}", folder.display());
+    println!("cargo::rustc-link-lib=static={CRATE}");
+}
+
+/// The crate and, by the lines of crates.txt, all that it uses.
+fn used(root: &Path) -> Vec<String> {
+    let listed = fs::read_to_string(root.join("crates.txt"))
+        .unwrap_or_else(|why| stop(&format!("crates.txt can't be read: {why}")));
+    let mut found = vec![CRATE.to_string()];
+    let mut at = 0;
+    while at < found.len() {
+        let line = listed
+            .lines()
+            .find_map(|line| line.strip_prefix(&found[at])?.strip_prefix(':'));
+        for name in line.unwrap_or("").split_whitespace() {
+            if !found.iter().any(|known| known == name) {
+                found.push(name.to_string());
+            }
+        }
+        at += 1;
+    }
+    found
+}
+
+/// When a file below a folder was last changed.
+fn changed(folder: &Path) -> Option<SystemTime> {
+    let mut newest = None;
+    for entry in fs::read_dir(folder).ok()?.flatten() {
+        let path = entry.path();
+        let time = if path.is_dir() {
+            changed(&path)
+        } else {
+            entry.metadata().and_then(|m| m.modified()).ok()
+        };
+        newest = newest.max(time);
+    }
+    newest
+}
+
+fn build(root: &Path) {
+    let made = Command::new("rt").args(["staticlib", CRATE]).current_dir(root).output();
+    match made {
+        Err(why) => stop(&format!(
+            "the archive has to be built, and `rt` can't be run ({why}).\n\
+             Put the Rattle kit's `rt` on PATH, or run `rt staticlib {CRATE}` at {} by hand.",
+            root.display()
+        )),
+        Ok(out) if !out.status.success() => stop(&format!(
+            "`rt staticlib {CRATE}` failed ({}):\n{}{}",
+            out.status,
+            String::from_utf8_lossy(&out.stdout),
+            String::from_utf8_lossy(&out.stderr)
+        )),
+        Ok(_) => {}
+    }
+}
+
+fn stop(why: &str) -> ! {
+    eprintln!("giellavor: {why}");
+    exit(1)
+}

@@ -1,0 +1,93 @@
+//! Refusals, by the numbers of document 01.
+
+use std::error::Error;
+use std::fmt;
+
+/// Why a call was refused. Of several that apply it is the lowest.
+#[derive(Clone, Copy, Debug, PartialEq, Eq, PartialOrd, Ord, Hash)]
+#[repr(u8)]
+pub enum Refusal {
+    ShortMemory = 1,
+    TooMany = 2,
+    TagTaken = 3,
+    NoSuchLink = 4,
+    BadMask = 5,
+    AxisLocked = 6,
+    NotFinite = 7,
+    NoRotation = 8,
+    AngleTooFar = 9,
+    BoundsReversed = 10,
+    Singular = 11,
+    ResultNotFinite = 12,
+}
+
+impl Refusal {
+    pub fn number(self) -> u8 {
+        self as u8
+    }
+
+    fn reason(self) -> &'static str {
+        match self {
+            Refusal::ShortMemory => "lent memory is shorter than needed",
+            Refusal::TooMany => "a list is full, or what is handed in counts more than fits",
+            Refusal::TagTaken => "the tag is already in the arm",
+            Refusal::NoSuchLink => "no such link, or a parent that does not come before its link",
+            Refusal::BadMask => "a mask above 7, an axis above 2, or a root mask other than 7 or 0",
+            Refusal::AxisLocked => "the axis is locked",
+            Refusal::NotFinite => "a float that is given or read is not finite",
+            Refusal::NoRotation => "a given rotation is not of unit length",
+            Refusal::AngleTooFar => "an angle beyond 256 either way",
+            Refusal::BoundsReversed => "a pair of bounds the wrong way round",
+            Refusal::Singular => "the matrix is singular",
+            Refusal::ResultNotFinite => "a result is not finite",
+        }
+    }
+}
+
+impl fmt::Display for Refusal {
+    fn fmt(&self, f: &mut fmt::Formatter<'_>) -> fmt::Result {
+        write!(f, "refused with {}: {}", self.number(), self.reason())
+    }
+}
+
+impl Error for Refusal {}
+
+/// What an exported function returned: a count, or a refusal's number below zero. None returns less than -12.
+pub(crate) fn told(returned: i32) -> Result<usize, Refusal> {
+    Err(match returned {
+        0.. => return Ok(returned as usize),
+        -1 => Refusal::ShortMemory,
+        -2 => Refusal::TooMany,
+        -3 => Refusal::TagTaken,
+        -4 => Refusal::NoSuchLink,
+        -5 => Refusal::BadMask,
+        -6 => Refusal::AxisLocked,
+        -7 => Refusal::NotFinite,
+        -8 => Refusal::NoRotation,
+        -9 => Refusal::AngleTooFar,
+        -10 => Refusal::BoundsReversed,
+        -11 => Refusal::Singular,
+        ..=-12 => Refusal::ResultNotFinite,
+    })
+}
+
+#[cfg(test)]
+mod tests {
+    use super::*;
+
+    #[test]
+    fn counts_are_told_as_they_are() {
+        for count in [0, 1, 16, 48, i32::MAX] {
+            assert_eq!(told(count), Ok(count as usize));
+        }
+    }
+
+    #[test]
+    fn refusals_are_told_by_their_number() {
+        for number in 1..=12 {
+            let refusal = told(-number).unwrap_err();
+            assert_eq!(i32::from(refusal.number()), number);
+            assert!(refusal.to_string().starts_with(&format!("refused with {number}: ")));
+        }
+    }
+}
