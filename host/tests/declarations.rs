@@ -107,6 +107,12 @@ fn the_declarations_are_those_of_the_source() {
 }
 
 #[test]
+fn an_arm_has_as_many_links_as_in_the_source() {
+    let text = code(&fs::read_to_string(host().join("../crates/limits/src/lib.rt")).unwrap());
+    assert!(text.contains(&format!("pub const LINKS: usize = {};", giellavor::LINKS)));
+}
+
+#[test]
 fn unsafe_code_stands_in_one_module() {
     let mut others = files(&host().join("src"), ".rs");
     others.extend(files(&host().join("examples"), ".rs"));

@@ -77,10 +77,10 @@ module _ (mask : ℕ) (lent : List ℕ) (old part rest : List Float) (a : Count)
   pub bytes-fit : 4 * length (take (a .count - 0) (part ++ rest)) ≤ length lent
   bytes-fit = omega (arith, fits, length-take (a .count - 0) (part ++ rest))
 
-  pub damped : (bytes : List ℕ) → bytes ≡ laid (bytesOf (take (a .count - 0) (part ++ rest))) lent
+  pub as-written : (bytes : List ℕ) → bytes ≡ laid (bytesOf (take (a .count - 0) (part ++ rest))) lent
       → out (countTold a) bytes ≡ filledTold (dampingBytes mask lent)
   unfolding dampingAnswer dampingBytes
-  damped bytes q =
+  as-written bytes q =
       let refusal : dampingRefusal mask (length old) ≡ dampingRefusal mask (length lent / 4) =
       ap (dampingRefusal mask) room ∙ same-refusal mask (length lent / 4) in
       rw (← refusal) (as-bytes (dofsOf mask) (dampingRow mask) old part a (length-row mask) (dampingRefusal mask (length old)) e rest lent bytes (rw sub-zero at q))

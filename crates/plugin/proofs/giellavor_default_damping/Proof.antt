@@ -1,5 +1,5 @@
 -- `giellavor_default_damping`: the answer over three floats, told, with their bytes for the floats. Assumes nothing.
-use Rattle.plugin.proofs.Damping.{bytes-fit, count-fits, damped, three-long}
+use Rattle.plugin.proofs.Damping.{bytes-fit, count-fits, as-written, three-long}
 use Rattle.plugin.proofs.Signs.{out-on}
 use borrow.Author.Needs.{needs}
 use Rattle.plugin.proofs.giellavor_default_damping.Statement.{statement}
@@ -30,10 +30,16 @@ part-write-row-start : tie.Need-part-write-row-start
 part-write-row-start c = search needs
 
 part-write-row-end : tie.Need-part-write-row-end
-part-write-row-end c = count-fits (c .before .before .before .before .before .before .before .args .mask) (c .before .before .before .before .before .before .before .args .damping .now) _ _ _ (c .before .before .before .default-damping .result) (three-long _ _ _ (c .before .before .before .before .before .fewer .ensures)) (c .before .before .before .default-damping .ensures)
+part-write-row-end c =
+    let start = c .before .before .before .before .before .before .before in
+    let damped = c .before .before .before in
+    count-fits (start .args .mask) (start .args .damping .now) _ _ _ (damped .default-damping .result) (three-long _ _ _ (damped .before .before .fewer .ensures)) (damped .default-damping .ensures)
 
 write-row-requires : tie.Need-write-row-requires
-write-row-requires c κs = bytes-fit (c .before .before .before .before .before .before .before .before .before .args .mask) (c .before .before .before .before .before .before .before .before .before .args .damping .now) _ _ _ (c .before .before .before .before .before .default-damping .result) (three-long _ _ _ (c .before .before .before .before .before .before .before .fewer .ensures)) (c .before .before .before .before .before .default-damping .ensures)
+write-row-requires c κs =
+    let start = c .before .before .before .before .before .before .before .before .before in
+    let damped = c .before .before .before .before .before in
+    bytes-fit (start .args .mask) (start .args .damping .now) _ _ _ (damped .default-damping .result) (three-long _ _ _ (damped .before .before .fewer .ensures)) (damped .default-damping .ensures)
 
 tell-requires : tie.Need-tell-requires
 tell-requires c κs = search needs
@@ -42,7 +48,11 @@ same-length : tie.Need-same-length
 same-length c = search needs
 
 returns : tie.Need-returns
-returns c = out-on _ _ _ _ (c .tell .ok) (c .tell .ensures) (damped (c .before .before .before .before .before .before .before .before .before .before .before .before .before .args .mask) (c .before .before .before .before .before .before .before .before .before .before .before .before .before .args .damping .now) _ _ _ (c .before .before .before .before .before .before .before .before .before .default-damping .result) (three-long _ _ _ (c .before .before .before .before .before .before .before .before .before .before .before .fewer .ensures)) (c .before .before .before .before .before .before .before .before .before .default-damping .ensures) _ (c .before .before .before .write-row .ensures))
+returns c =
+    let start = c .before .before .before .before .before .before .before .before .before .before .before .before .before in
+    let damped = c .before .before .before .before .before .before .before .before .before in
+    out-on _ _ _ _ (c .tell .ok) (c .tell .ensures)
+    (as-written (start .args .mask) (start .args .damping .now) _ _ _ (damped .default-damping .result) (three-long _ _ _ (damped .before .before .fewer .ensures)) (damped .default-damping .ensures) _ (c .before .before .before .write-row .ensures))
 
 pub giellavor-default-damping-spec : {M : Type 1} → statement M
 giellavor-default-damping-spec =

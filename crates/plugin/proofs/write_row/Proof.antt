@@ -38,7 +38,11 @@ loop-less : tie.Need-loop-less Inv-loop μ-loop
 loop-less c = search needs
 
 loop-again : tie.Need-loop-again Inv-loop μ-loop
-loop-again c = (omega arith, written-more (c .before .before .before .before .before .before .before .before .before .before .args .row .now) (c .before .before .before .before .before .before .before .before .before .before .args .bytes .now) (c .before .before .before .before .before .before .before .loop .i) (c .before .before .before .before .before .before .before .loop .bytes) (c .before .before .before .before .before .before .before .loop .inv .1) (c .before .before .before .before .before .before .loop-test .taken) (c .before .before .before .before .bits .result) _ (c .before .before .before .before .bits .ensures) (c .before .bytes .given) (c .before .before .write-bits .ensures))
+loop-again c =
+    let start = c .before .before .before .before .before .before .before .before .before .before in
+    let at = c .before .before .before .before .before .before .before .loop in
+    let bits = c .before .before .before .before .bits in
+    (omega arith, written-more (start .args .row .now) (start .args .bytes .now) (at .i) (at .bytes) (at .inv .1) (c .before .before .before .before .before .before .loop-test .taken) (bits .result) _ (bits .ensures) (c .before .bytes .given) (c .before .before .write-bits .ensures))
 
 same-length : tie.Need-same-length Inv-loop μ-loop
 same-length c = c .before .loop .inv .1 .same-length
