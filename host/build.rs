@@ -13,7 +13,11 @@ fn main() {
     let folder = root.join("target/staticlib");
     let archive = folder.join(format!("lib{CRATE}.a"));
 
-    let sources: Vec<PathBuf> = used(&root).iter().map(|name| root.join("crates").join(name)).collect();
+    let sources: Vec<PathBuf> = used(&root)
+        .iter()
+        .flat_map(|name| ["src", "specs", "proofs"].map(|folder| root.join("crates").join(name).join(folder)))
+        .filter(|folder| folder.exists())
+        .collect();
     let newest = sources.iter().filter_map(|folder| changed(folder)).max();
     if fs::metadata(&archive).and_then(|a| a.modified()).ok() < newest {
         build(&root);
