@@ -20,7 +20,7 @@ pub data Question : Type 0 where
   -- the constraint count of locked, limit and motor masks
   constraints : ℕ → ℕ → ℕ → Question
 
--- the answer as numbers: the refusal, the count, then what stands in lent memory of just the needed length; a float by its bits
+-- the answer as numbers: the refusal, the count if there is one, then what lent memory of just the needed length holds; a float by its bits
 unfoldable pub answer : Question → List ℕ
 answer (split parents s) =
     let o = splitAnswer parents s (replicate (2 * length parents) 0) in
