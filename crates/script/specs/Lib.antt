@@ -1,0 +1,5 @@
+pub mod Words
+pub mod Lines
+pub mod Numbers
+pub mod Floats
+pub mod Writing
