@@ -1,6 +1,6 @@
 -- Words of a line: parted by one or more spaces; any other byte is part of a word.
 use Prim.Native.Nat.{ℕ, suc, _+_, _-_}
-use mathlib.Core.Bool.{Bool, true, false, cond, _&&_}
+use mathlib.Core.Bool.{Bool, true, false, cond, not, _&&_}
 use mathlib.Core.List.{List, [], _∷_}
 use lib.Dec.{eqb, ltb, leb}
 use lib.ListN.{length, take, drop}
@@ -10,15 +10,24 @@ use Rattle.script.specs.declared.Word.the-variants.{At, Missing}
 abbrev pub space : ℕ
 space = 32
 
+-- how many bytes, from the first on, pass a test
+unfoldable pub run : (ℕ → Bool) → List ℕ → ℕ
+run test [] = 0
+run test (x ∷ xs) = cond (test x) (suc (run test xs)) 0
+
+abbrev pub isSpace : ℕ → Bool
+isSpace x = eqb x space
+
+abbrev pub isOther : ℕ → ℕ → Bool
+isOther b x = not (eqb x b)
+
 -- how many bytes stand before the first b
-unfoldable pub bytesBefore : ℕ → List ℕ → ℕ
-bytesBefore b [] = 0
-bytesBefore b (x ∷ xs) = cond (eqb x b) 0 (suc (bytesBefore b xs))
+abbrev pub bytesBefore : ℕ → List ℕ → ℕ
+bytesBefore b xs = run (isOther b) xs
 
 -- how many spaces stand first
-unfoldable pub spacesIn : List ℕ → ℕ
-spacesIn [] = 0
-spacesIn (x ∷ xs) = cond (eqb x space) (suc (spacesIn xs)) 0
+abbrev pub spacesIn : List ℕ → ℕ
+spacesIn xs = run isSpace xs
 
 -- a word, where it has a byte
 abbrev pub wordAt : ℕ → ℕ → Word

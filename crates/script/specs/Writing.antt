@@ -19,7 +19,7 @@ written next buffer = record { next = next; buffer = buffer }
 unfoldable pub wordWritten : List ℕ → ℕ → List ℕ → Written
 wordWritten out at bytes =
     let next = at + length bytes in
-    cond (leb next (length out)) (written next (take at out ++ (bytes ++ drop next out))) (written at out)
+    cond (leb next (length out)) (written next (take at out ++ bytes ++ drop next out)) (written at out)
 
 abbrev pub byteWritten : List ℕ → ℕ → ℕ → Written
 byteWritten out at byte = wordWritten out at (byte ∷ [])

@@ -1,9 +1,7 @@
 // The text of the replay script: lines, words, numbers and floats, read out of bytes and written into them.
 ghost use mathlib.Core.Path.{_≡_};
-ghost use Prim.Native.Nat.{_+_, _<_, _≤_, _^_};
-ghost use lib.IntN.{pos};
+ghost use Prim.Native.Nat.{_+_, _<_, _≤_};
 ghost use lib.ListN.{drop};
-ghost use lib.Ieee.{binary32, ofInt};
 ghost use Rattle.script.specs.Lines.{newlineAfter, seenStep, seenAfter, kindOf, lineKind};
 ghost use Rattle.script.specs.Words.{bytesBefore, spacesIn, nextWord, partOf, isLast, sameBytes};
 ghost use Rattle.script.specs.Numbers.{digitOf, wholeOf, numberOf, nextNumber};
@@ -113,7 +111,9 @@ pub fn kind_of(seen: Seen, length: usize) -> Line
                 Line::TooLong
             }
         }
-        _ => Line::Passed,
+        Seen::Nothing => Line::Passed,
+        Seen::Spaces => Line::Passed,
+        Seen::Comment => Line::Passed,
     }
 }
 
@@ -316,24 +316,20 @@ fn pattern(word: &[u8]) -> FloatWord
     }
 }
 
-fn power_of_ten(k: usize) -> f32
-    requires { ⌜ k ≤ 10 ⌝ }
-    ensures { λ r. ⌜ r ≡ ofInt binary32 (pos (10 ^ k)) ⌝ }
-{
-    match k {
-        0 => 1.0,
-        1 => 10.0,
-        2 => 100.0,
-        3 => 1000.0,
-        4 => 10000.0,
-        5 => 100000.0,
-        6 => 1000000.0,
-        7 => 10000000.0,
-        8 => 100000000.0,
-        9 => 1000000000.0,
-        _ => 10000000000.0,
-    }
-}
+// The powers of ten that f32 holds exactly.
+const TENS: [f32; 11] = [
+    1.0,
+    10.0,
+    100.0,
+    1000.0,
+    10000.0,
+    100000.0,
+    1000000.0,
+    10000000.0,
+    100000000.0,
+    1000000000.0,
+    10000000000.0,
+];
 
 // All digits of a decimal together are below 16777216, and at most ten stand after its point.
 const MOST_DIGITS: u32 = 16777215;
@@ -346,7 +342,7 @@ fn fraction(digits: &[u8], first: u32, places: usize) -> FloatWord
     ensures { λ r. ⌜ r ≡ scaledBy places (wholeOf 10 16777215 first (now (digits .entry))) ⌝ }
 {
     match whole(digits, 10, MOST_DIGITS, first) {
-        NumberWord::Value(m) => FloatWord::Value((m as f32) / power_of_ten(places)),
+        NumberWord::Value(m) => FloatWord::Value((m as f32) / TENS[places]),
         NumberWord::Unreadable => FloatWord::Unreadable,
     }
 }

@@ -1,0 +1,10 @@
+pub mod Flags
+pub mod Runs
+pub mod Equal
+pub mod Pieces
+pub mod Digits
+pub mod Patterns
+pub mod Scaling
+pub mod Decimals
+pub mod Storing
+pub mod RoundTrip

@@ -1,0 +1,55 @@
+use borrow.Author.Needs.{needs}
+use Rattle.script.proofs.digit.Statement.{statement}
+use Rattle.script.proofs.digit.Tie as tie
+use Rattle.script.proofs.digit.Reads as reads
+use Rattle.script.proofs.digit.Lts as lts
+
+-- src/lib.rt:218:24
+sub-result : tie.Need-sub-result
+sub-result c = search needs
+
+-- src/lib.rt:217:24
+sub-result-2 : tie.Need-sub-result-2
+sub-result-2 c = search needs
+
+-- src/lib.rt:212:1
+returns : tie.Need-returns
+returns c = search needs
+
+-- src/lib.rt:212:1
+returns-2 : tie.Need-returns-2
+returns-2 c = search needs
+
+-- src/lib.rt:212:1
+returns-3 : tie.Need-returns-3
+returns-3 c = search needs
+
+-- src/lib.rt:212:1
+returns-4 : tie.Need-returns-4
+returns-4 c = search needs
+
+-- src/lib.rt:212:1
+returns-5 : tie.Need-returns-5
+returns-5 c = search needs
+
+-- src/lib.rt:212:1
+returns-6 : tie.Need-returns-6
+returns-6 c = search needs
+
+-- src/lib.rt:212:1
+returns-7 : tie.Need-returns-7
+returns-7 c = search needs
+
+pub digit-spec : {M : Type 1} → statement M
+digit-spec =
+    tie.close
+    (tie.spec
+    sub-result
+    sub-result-2
+    returns
+    returns-2
+    returns-3
+    returns-4
+    returns-5
+    returns-6
+    returns-7)
