@@ -1,3 +1,4 @@
+use borrow.Author.Tests.{le-ltb, lt-ltb}
 use borrow.Author.Needs.{needs}
 use Rattle.script.proofs.digit_of.Statement.{statement}
 use Rattle.script.proofs.digit_of.Tie as tie
@@ -22,11 +23,11 @@ add-result-2 c = search needs
 
 -- src/lib.rt:466:1
 returns : tie.Need-returns
-returns c = search needs
+returns c = rw (lt-ltb _ _ (c .if1 .taken))
 
 -- src/lib.rt:466:1
 returns-2 : tie.Need-returns-2
-returns-2 c = search needs
+returns-2 c = rw (le-ltb _ _ (c .if1 .left))
 
 pub digit-of-spec : {M : Type 1} → statement M
 digit-of-spec =

@@ -1,4 +1,7 @@
-use Rattle.script.specs.Words.{bytesBefore}
+use Rattle.script.proofs.Runs.{run-ends, run-goes, run-stops}
+use borrow.Author.Tests.{eq-eqb, ne-eqb}
+use mathlib.Core.Bool.{not}
+use Rattle.script.specs.Words.{bytesBefore, isOther}
 use mathlib.Core.Path.{_≡_, refl, sym, ap, _∙_}
 use Prim.Native.Nat.{ℕ, _+_, _-_, _≤_, _<_}
 use native.Mathlib.Omega.{arith}
@@ -25,7 +28,7 @@ shared-slice-read-if1 c = search needs
 
 -- src/lib.rt:20:13
 returns : tie.Need-returns Inv-loop μ-loop
-returns c = search needs
+returns c = sym (c .before .before .before .loop .inv ∙ run-stops (isOther (c .before .before .before .before .args .byte)) (c .before .before .before .before .args .s .now) (c .before .before .before .loop .i) (c .before .before .loop-test .taken) (ap not (eq-eqb _ _ (c .if1 .taken))))
 
 -- src/lib.rt:22:9
 add-i : tie.Need-add-i Inv-loop μ-loop
@@ -37,11 +40,11 @@ loop-less c = search needs
 
 -- src/lib.rt:18:5
 loop-again : tie.Need-loop-again Inv-loop μ-loop
-loop-again c = search needs
+loop-again c = c .before .before .before .loop .inv ∙ run-goes (isOther (c .before .before .before .before .args .byte)) (c .before .before .before .before .args .s .now) (c .before .before .before .loop .i) (c .before .before .loop-test .taken) (ap not (ne-eqb _ _ (c .if1 .left)))
 
 -- src/lib.rt:14:1
 returns-2 : tie.Need-returns-2 Inv-loop μ-loop
-returns-2 c = search needs
+returns-2 c = sym (c .before .loop .inv ∙ run-ends (isOther (c .before .before .args .byte)) (c .before .before .args .s .now) (c .before .loop .i) (c .loop-test .left))
 
 pub find-spec : {M : Type 1} → statement M
 find-spec =

@@ -1,3 +1,6 @@
+use Rattle.script.proofs.Patterns.{nan-of-bits, other-of-bits}
+use lib.Ieee.{div, ofBits}
+use mathlib.Core.Path.{sym}
 use borrow.Author.Needs.{needs}
 use Rattle.script.proofs.float_of_bits.Statement.{statement}
 use Rattle.script.proofs.float_of_bits.Tie as tie
@@ -6,11 +9,12 @@ use Rattle.script.proofs.float_of_bits.Lts as lts
 
 -- src/lib.rt:291:9
 returns : tie.Need-returns
-returns c = search needs
+unfolding div ofBits
+returns c = sym (nan-of-bits (c .before .args .bits) (c .if1 .taken))
 
 -- src/lib.rt:293:5
 float-from-bits-result : tie.Need-float-from-bits-result
-float-from-bits-result c = search needs
+float-from-bits-result c = other-of-bits (c .before .args .bits) (c .if1 .left)
 
 -- src/lib.rt:287:1
 returns-2 : tie.Need-returns-2

@@ -1,3 +1,4 @@
+use Rattle.script.specs.Writing.{hexDigits}
 use borrow.Author.Needs.{needs}
 use Rattle.script.proofs.hex_digits.Statement.{statement}
 use Rattle.script.proofs.hex_digits.Tie as tie
@@ -39,7 +40,8 @@ digit-of-requires-8 c κs = search needs
 
 -- src/lib.rt:490:1
 returns : tie.Need-returns
-returns c = search needs
+unfolding hexDigits
+returns c = cc
 
 pub hex-digits-spec : {M : Type 1} → statement M
 hex-digits-spec =

@@ -1,3 +1,4 @@
+use Rattle.script.specs.Floats.{negated}
 use borrow.Author.Needs.{needs}
 use Rattle.script.proofs.negative.Statement.{statement}
 use Rattle.script.proofs.negative.Tie as tie
@@ -14,11 +15,13 @@ enum-told c = search needs
 
 -- src/lib.rt:386:1
 returns : tie.Need-returns
-returns c = search needs
+unfolding negated
+returns c = rw (c .before .x .given .1)
 
 -- src/lib.rt:386:1
 returns-2 : tie.Need-returns-2
-returns-2 c = search needs
+unfolding negated
+returns-2 c = rw (c .enum-told .given .1)
 
 pub negative-spec : {M : Type 1} → statement M
 negative-spec = tie.close (tie.spec enum-known-x enum-told returns returns-2)

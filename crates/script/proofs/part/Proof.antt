@@ -1,3 +1,5 @@
+use borrow.Author.Tests.{le-leb, lt-leb}
+use Rattle.script.specs.Words.{partOf}
 use borrow.Author.Needs.{needs}
 use Rattle.script.proofs.part.Statement.{statement}
 use Rattle.script.proofs.part.Tie as tie
@@ -38,15 +40,18 @@ part-result-end-3 c = search needs
 
 -- src/lib.rt:162:1
 returns : tie.Need-returns
-returns c = search needs
+unfolding partOf
+returns c = rw (le-leb _ _ (c .before .before .if1 .taken), le-leb _ _ (c .before .if2 .taken))
 
 -- src/lib.rt:162:1
 returns-2 : tie.Need-returns-2
-returns-2 c = search needs
+unfolding partOf
+returns-2 c = rw (le-leb _ _ (c .before .before .if1 .taken), lt-leb _ _ (c .before .if2 .left))
 
 -- src/lib.rt:162:1
 returns-3 : tie.Need-returns-3
-returns-3 c = search needs
+unfolding partOf
+returns-3 c = rw (lt-leb _ _ (c .before .if1 .left))
 
 pub part-spec : {M : Type 1} → statement M
 part-spec =

@@ -1,3 +1,4 @@
+use Rattle.script.proofs.Equal.{other-length, same-ends, same-goes, same-stops}
 use Rattle.script.specs.Words.{sameBytes}
 use mathlib.Core.Path.{_≡_, refl, sym, ap, _∙_}
 use Prim.Native.Nat.{ℕ, _+_, _-_, _≤_, _<_}
@@ -17,7 +18,7 @@ abbrev μ-loop : tie.MeasureT-loop
 
 -- src/lib.rt:191:9
 returns : tie.Need-returns Inv-loop μ-loop
-returns c = search needs
+returns c = sym (other-length _ _ (c .if1 .taken))
 
 -- src/lib.rt:194:5
 loop-holds : tie.Need-loop-holds Inv-loop μ-loop
@@ -33,7 +34,7 @@ shared-slice-read-if2-2 c = search needs
 
 -- src/lib.rt:196:13
 returns-2 : tie.Need-returns-2 Inv-loop μ-loop
-returns-2 c = search needs
+returns-2 c = sym (c .before .before .before .before .loop .inv .1 ∙ same-stops (c .before .before .before .before .before .before .args .a .now) (c .before .before .before .before .before .before .args .b .now) (c .before .before .before .before .loop .i) (c .before .before .before .loop-test .taken) (omega arith) (c .if2 .taken))
 
 -- src/lib.rt:198:9
 add-i : tie.Need-add-i Inv-loop μ-loop
@@ -45,11 +46,11 @@ loop-less c = search needs
 
 -- src/lib.rt:194:5
 loop-again : tie.Need-loop-again Inv-loop μ-loop
-loop-again c = search needs
+loop-again c = (c .before .before .before .before .loop .inv .0, c .before .before .before .before .loop .inv .1 ∙ same-goes (c .before .before .before .before .before .before .args .a .now) (c .before .before .before .before .before .before .args .b .now) (c .before .before .before .before .loop .i) (c .before .before .before .loop-test .taken) (omega arith) (c .if2 .left))
 
 -- src/lib.rt:187:1
 returns-3 : tie.Need-returns-3 Inv-loop μ-loop
-returns-3 c = search needs
+returns-3 c = sym (c .before .loop .inv .1 ∙ same-ends (c .before .before .before .args .a .now) (c .before .before .before .args .b .now) (c .before .loop .i) (c .loop-test .left) (omega arith))
 
 pub same-spec : {M : Type 1} → statement M
 same-spec =

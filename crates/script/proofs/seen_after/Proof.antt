@@ -1,3 +1,4 @@
+use Rattle.script.proofs.Pieces.{seen-ends, seen-goes}
 use Rattle.script.specs.Lines.{seenAfter}
 use mathlib.Core.Path.{_≡_, refl, sym, ap, _∙_}
 use Prim.Native.Nat.{ℕ, _+_, _-_, _≤_, _<_}
@@ -38,11 +39,11 @@ loop-less c = search needs
 
 -- src/lib.rt:87:5
 loop-again : tie.Need-loop-again Inv-loop μ-loop
-loop-again c = search needs
+loop-again c = c .before .before .before .loop .inv ∙ seen-goes (c .before .before .before .loop .so-far) (c .seen-step .result) (c .before .before .before .before .before .args .piece .now) (c .before .before .before .loop .i) (c .before .before .loop-test .taken) (c .seen-step .ensures)
 
 -- src/lib.rt:82:1
 returns : tie.Need-returns Inv-loop μ-loop
-returns c = search needs
+returns c = sym (c .before .loop .inv ∙ seen-ends (c .before .loop .so-far) (c .before .before .before .args .piece .now) (c .before .loop .i) (c .loop-test .left))
 
 pub seen-after-spec : {M : Type 1} → statement M
 seen-after-spec =

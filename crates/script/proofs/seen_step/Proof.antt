@@ -1,3 +1,5 @@
+use borrow.Author.Tests.{eq-eqb, ne-eqb}
+use Rattle.script.specs.Lines.{seenStep}
 use borrow.Author.Needs.{needs}
 use Rattle.script.proofs.seen_step.Statement.{statement}
 use Rattle.script.proofs.seen_step.Tie as tie
@@ -10,7 +12,8 @@ enum-told c = search needs
 
 -- src/lib.rt:61:17
 returns : tie.Need-returns
-returns c = search needs
+unfolding seenStep
+returns c = rw (c .before .enum-told .given .1, eq-eqb _ _ (c .if1 .taken))
 
 -- src/lib.rt:70:16
 enum-told-2 : tie.Need-enum-told-2
@@ -26,27 +29,33 @@ enum-told-4 c = search needs
 
 -- src/lib.rt:55:1
 returns-2 : tie.Need-returns-2
-returns-2 c = search needs
+unfolding seenStep
+returns-2 c = rw (c .before .before .enum-told .given .1, ne-eqb _ _ (c .before .if1 .left), eq-eqb _ _ (c .if2 .taken))
 
 -- src/lib.rt:55:1
 returns-3 : tie.Need-returns-3
-returns-3 c = search needs
+unfolding seenStep
+returns-3 c = rw (c .before .before .enum-told .given .1, ne-eqb _ _ (c .before .if1 .left), ne-eqb _ _ (c .if2 .left))
 
 -- src/lib.rt:55:1
 returns-4 : tie.Need-returns-4
-returns-4 c = search needs
+unfolding seenStep
+returns-4 c = rw (c .before .enum-told2 .given .1, eq-eqb _ _ (c .if3 .taken))
 
 -- src/lib.rt:55:1
 returns-5 : tie.Need-returns-5
-returns-5 c = search needs
+unfolding seenStep
+returns-5 c = rw (c .before .enum-told2 .given .1, ne-eqb _ _ (c .if3 .left))
 
 -- src/lib.rt:55:1
 returns-6 : tie.Need-returns-6
-returns-6 c = search needs
+unfolding seenStep
+returns-6 c = rw (c .enum-told3 .given .1)
 
 -- src/lib.rt:55:1
 returns-7 : tie.Need-returns-7
-returns-7 c = search needs
+unfolding seenStep
+returns-7 c = rw (c .enum-told4 .given .1)
 
 pub seen-step-spec : {M : Type 1} → statement M
 seen-step-spec =

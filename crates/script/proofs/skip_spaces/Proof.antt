@@ -1,4 +1,6 @@
-use Rattle.script.specs.Words.{spacesIn}
+use Rattle.script.proofs.Runs.{run-ends, run-goes, run-stops}
+use borrow.Author.Tests.{eq-eqb, ne-eqb}
+use Rattle.script.specs.Words.{spacesIn, isSpace}
 use mathlib.Core.Path.{_≡_, refl, sym, ap, _∙_}
 use Prim.Native.Nat.{ℕ, _+_, _-_, _≤_, _<_}
 use native.Mathlib.Omega.{arith}
@@ -25,7 +27,7 @@ shared-slice-read-if1 c = search needs
 
 -- src/lib.rt:135:13
 returns : tie.Need-returns Inv-loop μ-loop
-returns c = search needs
+returns c = sym (c .before .before .before .loop .inv ∙ run-stops isSpace (c .before .before .before .before .args .line .now) (c .before .before .before .loop .i) (c .before .before .loop-test .taken) (ne-eqb _ _ (c .if1 .taken)))
 
 -- src/lib.rt:137:9
 add-i : tie.Need-add-i Inv-loop μ-loop
@@ -37,11 +39,11 @@ loop-less c = search needs
 
 -- src/lib.rt:133:5
 loop-again : tie.Need-loop-again Inv-loop μ-loop
-loop-again c = search needs
+loop-again c = c .before .before .before .loop .inv ∙ run-goes isSpace (c .before .before .before .before .args .line .now) (c .before .before .before .loop .i) (c .before .before .loop-test .taken) (eq-eqb _ _ (c .if1 .left))
 
 -- src/lib.rt:129:1
 returns-2 : tie.Need-returns-2 Inv-loop μ-loop
-returns-2 c = search needs
+returns-2 c = sym (c .before .loop .inv ∙ run-ends isSpace (c .before .before .args .line .now) (c .before .loop .i) (c .loop-test .left))
 
 pub skip-spaces-spec : {M : Type 1} → statement M
 skip-spaces-spec =

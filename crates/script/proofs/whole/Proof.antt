@@ -1,3 +1,4 @@
+use Rattle.script.proofs.Digits.{at-end, at-other, digits-go, is-empty, past-most, shift-fits, value-goes}
 use Rattle.script.specs.Numbers.{areDigits, valueFrom}
 use mathlib.Core.Path.{_≡_, refl, sym, ap, _∙_}
 use Prim.Native.Nat.{ℕ, _+_, _-_, _≤_, _<_}
@@ -18,7 +19,7 @@ abbrev μ-loop : tie.MeasureT-loop
 
 -- src/lib.rt:229:9
 returns : tie.Need-returns Inv-loop μ-loop
-returns c = search needs
+returns c = sym (is-empty _ _ _ _ (c .if1 .taken))
 
 -- src/lib.rt:233:5
 loop-holds : tie.Need-loop-holds Inv-loop μ-loop
@@ -34,7 +35,9 @@ digit-requires c κs = search needs
 
 -- src/lib.rt:236:13
 returns-2 : tie.Need-returns-2 Inv-loop μ-loop
-returns-2 c = search needs
+returns-2 c = 
+    let i = c .before .before .before .before .loop .inv in
+    sym (at-other (c .before .before .before .before .before .before .before .args .base) (c .before .before .before .before .before .before .before .args .most) (c .before .before .before .before .before .before .before .args .first) (c .before .before .before .before .before .before .before .args .s .now) (c .before .before .before .before .loop .n) (c .before .before .before .before .loop .i) (i .3) (i .4) (c .before .before .before .loop-test .taken) (rw (c .before .digit .ensures) at (c .if2 .taken)))
 
 -- src/lib.rt:238:21
 cast-more : tie.Need-cast-more Inv-loop μ-loop
@@ -42,7 +45,9 @@ cast-more c = search needs
 
 -- src/lib.rt:238:20
 mul-more : tie.Need-mul-more Inv-loop μ-loop
-mul-more c = search needs
+mul-more c = 
+    let f = shift-fits (c .before .before .before .before .loop .n) (c .before .before .before .before .before .before .before .args .base) (omega arith) (omega arith) in
+    omega arith
 
 -- src/lib.rt:238:50
 cast-more-2 : tie.Need-cast-more-2 Inv-loop μ-loop
@@ -50,11 +55,15 @@ cast-more-2 c = search needs
 
 -- src/lib.rt:238:20
 add-more : tie.Need-add-more Inv-loop μ-loop
-add-more c = search needs
+add-more c = 
+    let f = shift-fits (c .before .before .before .before .loop .n) (c .before .before .before .before .before .before .before .args .base) (omega arith) (omega arith) in
+    omega arith
 
 -- src/lib.rt:240:13
 returns-3 : tie.Need-returns-3 Inv-loop μ-loop
-returns-3 c = search needs
+returns-3 c = 
+    let i = c .before .before .before .before .before .loop .inv in
+    sym (past-most (c .before .before .before .before .before .before .before .before .args .base) (c .before .before .before .before .before .before .before .before .args .most) (c .before .before .before .before .before .before .before .before .args .first) (c .before .before .before .before .before .before .before .before .args .s .now) (c .before .before .before .before .before .loop .n) (c .before .before .before .before .before .loop .i) (i .3) (i .4) (c .before .before .before .before .loop-test .taken) (omega arith) (rw (c .before .before .digit .ensures) at (c .if3 .taken)))
 
 -- src/lib.rt:242:13
 cast-n : tie.Need-cast-n Inv-loop μ-loop
@@ -70,11 +79,20 @@ loop-less c = search needs
 
 -- src/lib.rt:233:5
 loop-again : tie.Need-loop-again Inv-loop μ-loop
-loop-again c = search needs
+loop-again c = 
+    let i = c .before .before .before .before .before .loop .inv in (
+      i .0,
+      omega arith,
+      (λ z. omega arith),
+      digits-go (c .before .before .before .before .before .before .before .before .args .base) (c .before .before .before .before .before .before .before .before .args .most) (c .before .before .before .before .before .before .before .before .args .first) (c .before .before .before .before .before .before .before .before .args .s .now) (c .before .before .before .before .before .loop .n) (c .before .before .before .before .before .loop .i) (i .3) (i .4) (c .before .before .before .before .loop-test .taken) (rw (c .before .before .digit .ensures) at (c .before .if2 .left)),
+      ap (λ (d : ℕ). valueFrom (c .before .before .before .before .before .before .before .before .args .base) (c .before .before .before .before .before .before .before .before .args .first) (c .before .before .before .before .before .before .before .before .args .s .now)) refl ∙ rw (c .before .before .digit .ensures) (value-goes (c .before .before .before .before .before .before .before .before .args .base) (c .before .before .before .before .before .before .before .before .args .most) (c .before .before .before .before .before .before .before .before .args .first) (c .before .before .before .before .before .before .before .before .args .s .now) (c .before .before .before .before .before .loop .n) (c .before .before .before .before .before .loop .i) (i .3) (i .4) (c .before .before .before .before .loop-test .taken)),
+    )
 
 -- src/lib.rt:224:1
 returns-4 : tie.Need-returns-4 Inv-loop μ-loop
-returns-4 c = search needs
+returns-4 c = 
+    let i = c .before .loop .inv in
+    sym (at-end (c .before .before .before .before .args .base) (c .before .before .before .before .args .most) (c .before .before .before .before .args .first) (c .before .before .before .before .args .s .now) (c .before .loop .n) (c .before .loop .i) (i .3) (i .4) (c .loop-test .left) (i .0) (i .2 (omega arith)))
 
 pub whole-spec : {M : Type 1} → statement M
 whole-spec =

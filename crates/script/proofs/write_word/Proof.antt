@@ -1,3 +1,4 @@
+use Rattle.script.proofs.Storing.{no-room}
 use lib.Seq.{paste}
 use mathlib.Core.Path.{_≡_, refl, sym, ap, _∙_}
 use Prim.Native.Nat.{ℕ, _+_, _-_, _≤_, _<_}
@@ -17,7 +18,7 @@ abbrev μ-loop : tie.MeasureT-loop
 
 -- src/lib.rt:444:9
 returns : tie.Need-returns Inv-loop μ-loop
-returns c = search needs
+returns c = sym (no-room (c .before .args .out .now) (c .before .args .at) (c .before .args .word .now) (omega arith))
 
 -- src/lib.rt:446:8
 sub-if2 : tie.Need-sub-if2 Inv-loop μ-loop
@@ -25,7 +26,7 @@ sub-if2 c = search needs
 
 -- src/lib.rt:447:9
 returns-2 : tie.Need-returns-2 Inv-loop μ-loop
-returns-2 c = search needs
+returns-2 c = sym (no-room (c .before .before .args .out .now) (c .before .before .args .at) (c .before .before .args .word .now) (omega arith))
 
 -- src/lib.rt:450:5
 loop-holds : tie.Need-loop-holds Inv-loop μ-loop
