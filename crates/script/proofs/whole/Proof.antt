@@ -12,7 +12,7 @@ use Rattle.script.proofs.whole.Lts as lts
 use Rattle.script.proofs.digit.Reads as digit-reads
 
 abbrev Inv-loop : tie.InvT-loop
-Inv-loop s base most first n₀ i₀ n i = (0 < length s) × (i ≤ length s) × (0 < i → n ≤ most) × (areDigits base s ≡ areDigits base (drop i s)) × (valueFrom base first s ≡ valueFrom base n (drop i s))
+Inv-loop s base most first n₀ i₀ n i = (n ≤ 4294967295) × (0 < length s) × (i ≤ length s) × (0 < i → n ≤ most) × (areDigits base s ≡ areDigits base (drop i s)) × (valueFrom base first s ≡ valueFrom base n (drop i s))
 
 abbrev μ-loop : tie.MeasureT-loop
 μ-loop s base most first n₀ i₀ n i = length s - i
@@ -37,7 +37,7 @@ digit-requires c κs = search needs
 returns-2 : tie.Need-returns-2 Inv-loop μ-loop
 returns-2 c = 
     let i = c .before .before .before .before .loop .inv in
-    sym (at-other (c .before .before .before .before .before .before .before .args .base) (c .before .before .before .before .before .before .before .args .most) (c .before .before .before .before .before .before .before .args .first) (c .before .before .before .before .before .before .before .args .s .now) (c .before .before .before .before .loop .n) (c .before .before .before .before .loop .i) (i .3) (i .4) (c .before .before .before .loop-test .taken) (rw (c .before .digit .ensures) at (c .if2 .taken)))
+    sym (at-other (c .before .before .before .before .before .before .before .args .base) (c .before .before .before .before .before .before .before .args .most) (c .before .before .before .before .before .before .before .args .first) (c .before .before .before .before .before .before .before .args .s .now) (c .before .before .before .before .loop .n) (c .before .before .before .before .loop .i) (i .4) (i .5) (c .before .before .before .loop-test .taken) (rw (c .before .digit .ensures) at (c .if2 .taken)))
 
 -- src/lib.rt:238:21
 cast-more : tie.Need-cast-more Inv-loop μ-loop
@@ -63,7 +63,7 @@ add-more c =
 returns-3 : tie.Need-returns-3 Inv-loop μ-loop
 returns-3 c = 
     let i = c .before .before .before .before .before .loop .inv in
-    sym (past-most (c .before .before .before .before .before .before .before .before .args .base) (c .before .before .before .before .before .before .before .before .args .most) (c .before .before .before .before .before .before .before .before .args .first) (c .before .before .before .before .before .before .before .before .args .s .now) (c .before .before .before .before .before .loop .n) (c .before .before .before .before .before .loop .i) (i .3) (i .4) (c .before .before .before .before .loop-test .taken) (omega arith) (rw (c .before .before .digit .ensures) at (c .if3 .taken)))
+    sym (past-most (c .before .before .before .before .before .before .before .before .args .base) (c .before .before .before .before .before .before .before .before .args .most) (c .before .before .before .before .before .before .before .before .args .first) (c .before .before .before .before .before .before .before .before .args .s .now) (c .before .before .before .before .before .loop .n) (c .before .before .before .before .before .loop .i) (i .4) (i .5) (c .before .before .before .before .loop-test .taken) (omega arith) (rw (c .before .before .digit .ensures) at (c .if3 .taken)))
 
 -- src/lib.rt:242:13
 cast-n : tie.Need-cast-n Inv-loop μ-loop
@@ -81,18 +81,19 @@ loop-less c = search needs
 loop-again : tie.Need-loop-again Inv-loop μ-loop
 loop-again c = 
     let i = c .before .before .before .before .before .loop .inv in (
-      i .0,
+      omega arith,
+      i .1,
       omega arith,
       (λ z. omega arith),
-      digits-go (c .before .before .before .before .before .before .before .before .args .base) (c .before .before .before .before .before .before .before .before .args .most) (c .before .before .before .before .before .before .before .before .args .first) (c .before .before .before .before .before .before .before .before .args .s .now) (c .before .before .before .before .before .loop .n) (c .before .before .before .before .before .loop .i) (i .3) (i .4) (c .before .before .before .before .loop-test .taken) (rw (c .before .before .digit .ensures) at (c .before .if2 .left)),
-      ap (λ (d : ℕ). valueFrom (c .before .before .before .before .before .before .before .before .args .base) (c .before .before .before .before .before .before .before .before .args .first) (c .before .before .before .before .before .before .before .before .args .s .now)) refl ∙ rw (c .before .before .digit .ensures) (value-goes (c .before .before .before .before .before .before .before .before .args .base) (c .before .before .before .before .before .before .before .before .args .most) (c .before .before .before .before .before .before .before .before .args .first) (c .before .before .before .before .before .before .before .before .args .s .now) (c .before .before .before .before .before .loop .n) (c .before .before .before .before .before .loop .i) (i .3) (i .4) (c .before .before .before .before .loop-test .taken)),
+      digits-go (c .before .before .before .before .before .before .before .before .args .base) (c .before .before .before .before .before .before .before .before .args .most) (c .before .before .before .before .before .before .before .before .args .first) (c .before .before .before .before .before .before .before .before .args .s .now) (c .before .before .before .before .before .loop .n) (c .before .before .before .before .before .loop .i) (i .4) (i .5) (c .before .before .before .before .loop-test .taken) (rw (c .before .before .digit .ensures) at (c .before .if2 .left)),
+      rw (c .before .before .digit .ensures) (value-goes (c .before .before .before .before .before .before .before .before .args .base) (c .before .before .before .before .before .before .before .before .args .most) (c .before .before .before .before .before .before .before .before .args .first) (c .before .before .before .before .before .before .before .before .args .s .now) (c .before .before .before .before .before .loop .n) (c .before .before .before .before .before .loop .i) (i .4) (i .5) (c .before .before .before .before .loop-test .taken)),
     )
 
 -- src/lib.rt:224:1
 returns-4 : tie.Need-returns-4 Inv-loop μ-loop
 returns-4 c = 
     let i = c .before .loop .inv in
-    sym (at-end (c .before .before .before .before .args .base) (c .before .before .before .before .args .most) (c .before .before .before .before .args .first) (c .before .before .before .before .args .s .now) (c .before .loop .n) (c .before .loop .i) (i .3) (i .4) (c .loop-test .left) (i .0) (i .2 (omega arith)))
+    sym (at-end (c .before .before .before .before .args .base) (c .before .before .before .before .args .most) (c .before .before .before .before .args .first) (c .before .before .before .before .args .s .now) (c .before .loop .n) (c .before .loop .i) (i .4) (i .5) (c .loop-test .left) (i .1) (i .3 (omega arith)))
 
 pub whole-spec : {M : Type 1} → statement M
 whole-spec =

@@ -1,9 +1,10 @@
-use Rattle.script.proofs.Storing.{no-room}
+use native.Mathlib.Numerals.{add-one}
+use Rattle.script.proofs.Storing.{no-room, all-stored}
 use lib.Seq.{paste}
 use mathlib.Core.Path.{_≡_, refl, sym, ap, _∙_}
 use Prim.Native.Nat.{ℕ, _+_, _-_, _≤_, _<_}
 use native.Mathlib.Omega.{arith}
-use lib.ListN.{length, take, drop, getD}
+use lib.ListN.{length, take, drop, getD, length-set}
 use borrow.Author.Needs.{needs}
 use Rattle.script.proofs.write_word.Statement.{statement}
 use Rattle.script.proofs.write_word.Tie as tie
@@ -30,7 +31,7 @@ returns-2 c = sym (no-room (c .before .before .args .out .now) (c .before .befor
 
 -- src/lib.rt:450:5
 loop-holds : tie.Need-loop-holds Inv-loop μ-loop
-loop-holds c = search needs
+loop-holds c = (omega arith, omega arith, refl, paste-zero (c .before .before .args .out .now) (c .before .before .args .at) (c .before .before .args .word .now))
 
 -- src/lib.rt:451:23
 shared-slice-read-out : tie.Need-shared-slice-read-out Inv-loop μ-loop
@@ -54,7 +55,13 @@ loop-less c = search needs
 
 -- src/lib.rt:450:5
 loop-again : tie.Need-loop-again Inv-loop μ-loop
-loop-again c = search needs
+loop-again c = 
+    let i = c .before .before .loop .inv in (
+      i .0,
+      omega arith,
+      length-set _ _ _ ∙ i .2,
+      rw (i .3, add-one) (paste-suc (c .before .before .before .before .before .args .out .now) (c .before .before .before .before .before .args .at) (c .before .before .before .before .before .args .word .now) (c .before .before .loop .i) 0 (omega arith) (c .before .loop-test .taken)),
+    )
 
 -- src/lib.rt:454:5
 add-result : tie.Need-add-result Inv-loop μ-loop
@@ -66,7 +73,10 @@ same-length c = search needs
 
 -- src/lib.rt:440:1
 returns-3 : tie.Need-returns-3 Inv-loop μ-loop
-returns-3 c = search needs
+returns-3 c = 
+    let i = c .before .loop .inv in
+    let e : c .before .loop .i ≡ length (c .before .before .before .before .args .word .now) = omega arith in
+    rw (i .3, e) (all-stored (c .before .before .before .before .args .out .now) (c .before .before .before .before .args .at) (c .before .before .before .before .args .word .now) (i .0))
 
 pub write-word-spec : {M : Type 1} → statement M
 write-word-spec =

@@ -1,0 +1,103 @@
+use borrow.Author.Needs.{needs}
+use Rattle.script.proofs.decimal.Statement.{statement}
+use Rattle.script.proofs.decimal.Tie as tie
+use Rattle.script.proofs.decimal.Reads as reads
+use Rattle.script.proofs.decimal.Lts as lts
+use Rattle.script.proofs.find.Reads as find-reads
+use Rattle.script.proofs.fraction.Reads as fraction-reads
+use Rattle.script.proofs.whole.Reads as whole-reads
+
+-- src/lib.rt:354:9
+find-requires : tie.Need-find-requires
+find-requires c κs = search needs
+
+-- src/lib.rt:356:9
+fraction-requires : tie.Need-fraction-requires
+fraction-requires c κs = search needs
+
+-- src/lib.rt:356:9
+returns : tie.Need-returns
+returns c = ?
+
+-- src/lib.rt:358:17
+add-after : tie.Need-add-after
+add-after c = search needs
+
+-- src/lib.rt:359:18
+sub-places : tie.Need-sub-places
+sub-places c = search needs
+
+-- src/lib.rt:361:9
+returns-2 : tie.Need-returns-2
+returns-2 c = ?
+
+-- src/lib.rt:363:17
+sub-whole : tie.Need-sub-whole
+sub-whole c = search needs
+
+-- src/lib.rt:363:17
+part-whole-start : tie.Need-part-whole-start
+part-whole-start c = search needs
+
+-- src/lib.rt:363:17
+part-whole-end : tie.Need-part-whole-end
+part-whole-end c = search needs
+
+-- src/lib.rt:363:11
+whole-requires : tie.Need-whole-requires
+whole-requires c κs = search needs
+
+-- src/lib.rt:364:27
+enum-known-m : tie.Need-enum-known-m
+enum-known-m c = search needs
+
+-- src/lib.rt:364:42
+sub-fraction : tie.Need-sub-fraction
+sub-fraction c = search needs
+
+-- src/lib.rt:364:42
+part-fraction-start : tie.Need-part-fraction-start
+part-fraction-start c = search needs
+
+-- src/lib.rt:364:42
+part-fraction-end : tie.Need-part-fraction-end
+part-fraction-end c = search needs
+
+-- src/lib.rt:364:33
+fraction-requires-2 : tie.Need-fraction-requires-2
+fraction-requires-2 c κs = search needs
+
+-- src/lib.rt:365:35
+enum-told : tie.Need-enum-told
+enum-told c = search needs
+
+-- src/lib.rt:351:1
+returns-3 : tie.Need-returns-3
+returns-3 c = ?
+
+-- src/lib.rt:351:1
+returns-4 : tie.Need-returns-4
+returns-4 c = ?
+
+pub decimal-spec : {M : Type 1} → statement M
+decimal-spec =
+    tie.close
+    (tie.spec
+    find-requires
+    fraction-requires
+    returns
+    add-after
+    sub-places
+    returns-2
+    sub-whole
+    part-whole-start
+    part-whole-end
+    whole-requires
+    enum-known-m
+    sub-fraction
+    part-fraction-start
+    part-fraction-end
+    fraction-requires-2
+    enum-told
+    returns-3
+    returns-4)

@@ -1,0 +1,51 @@
+use borrow.Author.Needs.{needs}
+use Rattle.script.proofs.fraction.Statement.{statement}
+use Rattle.script.proofs.fraction.Tie as tie
+use Rattle.script.proofs.fraction.Reads as reads
+use Rattle.script.proofs.fraction.Lts as lts
+use Rattle.script.proofs.whole.Reads as whole-reads
+
+-- src/lib.rt:344:11
+whole-requires : tie.Need-whole-requires
+whole-requires c κs = search needs
+
+-- src/lib.rt:345:27
+enum-known-m : tie.Need-enum-known-m
+enum-known-m c = search needs
+
+-- src/lib.rt:345:51
+int-to-float-t7 : tie.Need-int-to-float-t7
+int-to-float-t7 c = ?
+
+-- src/lib.rt:345:63
+mul-t9 : tie.Need-mul-t9
+mul-t9 c = search needs
+
+-- src/lib.rt:345:63
+array-read-t12 : tie.Need-array-read-t12
+array-read-t12 c = search needs
+
+-- src/lib.rt:346:35
+enum-told : tie.Need-enum-told
+enum-told c = search needs
+
+-- src/lib.rt:340:1
+returns : tie.Need-returns
+returns c = ?
+
+-- src/lib.rt:340:1
+returns-2 : tie.Need-returns-2
+returns-2 c = rw (← (c .before .before .whole .ensures), c .enum-told .given .1)
+
+pub fraction-spec : {M : Type 1} → statement M
+fraction-spec =
+    tie.close
+    (tie.spec
+    whole-requires
+    enum-known-m
+    int-to-float-t7
+    mul-t9
+    array-read-t12
+    enum-told
+    returns
+    returns-2)
