@@ -1,18 +1,21 @@
 -- A decimal with a point: its digits, read one row after the other, are all digits together. Assumes nothing.
 use mathlib.Core.Path.{_≡_, refl, sym, ap, _∙_}
-use mathlib.Core.Bool.{Bool, true, false, cond, _&&_}
+use mathlib.Core.Bool.{Bool, true, false, cond}
 use mathlib.Core.List.{List, [], _∷_, _++_}
-use Prim.Native.Nat.{ℕ, suc, _+_, _≤_, _<_}
+use Prim.Native.Nat.{ℕ, _+_, _-_, _≤_, _<_}
+use native.Mathlib.Nat.{zero-add, sub-zero}
+use native.Mathlib.Numerals.{add-one}
 use native.Mathlib.Omega.{arith}
 use borrow.Author.Tests.{le-leb, lt-leb, lt-ltb, le-ltb}
 use lib.Dec.{eqb, leb}
-use lib.ListN.{length, take, drop, getD}
+use borrow.Rule.Slice.PartAt.{part-to-end}
+use lib.ListN.{length, take, drop, getD, length-drop}
 use lib.Ieee.{nan}
 use Rattle.script.proofs.Flags.{and-false, either-way}
 use Rattle.script.proofs.Digits.{whole-value, whole-too-large, not-some, whole-rows, rows-too-large}
-use Rattle.script.specs.Words.{sameBytes}
+use Rattle.script.specs.Words.{bytesBefore, sameBytes}
 use Rattle.script.specs.Numbers.{someDigits, wholeOf}
-use Rattle.script.specs.Floats.{scaledBy, pointedOf, nanWord, negated, magnitudeOf, patternOf, floatOf}
+use Rattle.script.specs.Floats.{scaledBy, decimalBy, pointedOf, point, decimalOf, nanWord, negated, magnitudeOf, patternOf, floatOf}
 use Rattle.script.specs.declared.NumberWord.{NumberWord}
 use Rattle.script.specs.declared.NumberWord.the-variants as number
 use Rattle.script.specs.declared.FloatWord.{FloatWord}
@@ -46,6 +49,34 @@ module _ (before after : List ℕ) where
       go true q = rw (p, q, le-leb (length after) 10 h, whole-rows 10 16777215 before after q m e)
       go false q = rw (p, q, not-some 10 16777215 m after q)
 
+-- ---- where the point stands
+
+module _ (w : List ℕ) (k : ℕ) (e : k ≡ 0 + bytesBefore point w) where
+  pub no-point : length w ≤ k → decimalOf w ≡ decimalBy w 0
+  unfolding decimalOf
+  no-point h = rw (← (e ∙ zero-add (bytesBefore point w)), le-ltb k (length w) h)
+
+  with-point : k < length w → decimalOf w ≡ pointedOf (take k w) (drop (k + 1) w)
+  unfolding decimalOf
+  with-point h = rw (← (e ∙ zero-add (bytesBefore point w)), lt-ltb k (length w) h, add-one)
+
+  pub too-many-places : k < length w → 10 < length w - (k + 1) → decimalOf w ≡ Unreadable
+  too-many-places h l = with-point h ∙ pointed-long (take k w) (drop (k + 1) w) (simp length-drop l)
+
+  -- the digits before the point are read first
+  pub unreadable-before : k < length w → wholeOf 10 16777215 0 (take (k - 0) w) ≡ number.Unreadable → decimalOf w ≡ Unreadable
+  unreadable-before h r = with-point h ∙ pointed-unreadable (take k w) (drop (k + 1) w) (rw sub-zero at r)
+
+  -- and those after it go on from their number
+  pub goes-on : (m : ℕ) → k < length w → length w - (k + 1) ≤ 10 → wholeOf 10 16777215 0 (take (k - 0) w) ≡ number.Value m
+      → decimalOf w ≡ scaledBy (length w - (k + 1)) (wholeOf 10 16777215 m (take (length w - (k + 1)) (drop (k + 1) w)))
+  goes-on m h l r =
+      let rest = drop (k + 1) w in
+      with-point h
+      ∙ pointed-is (take k w) rest m (simp length-drop l) (rw sub-zero at r)
+      ∙ ap (λ (n : ℕ). scaledBy n (wholeOf 10 16777215 m rest)) (length-drop (k + 1) w)
+      ∙ ap (λ (s : List ℕ). scaledBy (length w - (k + 1)) (wholeOf 10 16777215 m s)) (sym (part-to-end w (k + 1)))
+
 -- ---- the first byte of a float
 
 pub by-first-byte : (w : List ℕ) → 0 < length w
@@ -53,3 +84,8 @@ pub by-first-byte : (w : List ℕ) → 0 < length w
 unfolding floatOf
 by-first-byte [] h = absurd (omega arith)
 by-first-byte (b ∷ bs) h = refl
+
+pub empty-float : (w : List ℕ) → length w ≡ 0 → floatOf w ≡ Unreadable
+unfolding floatOf
+empty-float [] h = refl
+empty-float (b ∷ bs) h = absurd (omega arith)

@@ -1,3 +1,6 @@
+use Rattle.script.proofs.Decimals.{no-point, pointed-long, pointed-unreadable, goes-on, too-many-places, unreadable-before}
+use lib.ListN.{length-drop}
+use mathlib.Core.Path.{_∙_, sym}
 use borrow.Author.Needs.{needs}
 use Rattle.script.proofs.decimal.Statement.{statement}
 use Rattle.script.proofs.decimal.Tie as tie
@@ -17,7 +20,7 @@ fraction-requires c κs = search needs
 
 -- src/lib.rt:356:9
 returns : tie.Need-returns
-returns c = ?
+returns c = c .fraction .ensures ∙ sym (no-point (c .before .before .before .before .args .word .now) (c .before .before .find .result) (c .before .before .find .ensures) (c .before .if1 .taken))
 
 -- src/lib.rt:358:17
 add-after : tie.Need-add-after
@@ -29,7 +32,7 @@ sub-places c = search needs
 
 -- src/lib.rt:361:9
 returns-2 : tie.Need-returns-2
-returns-2 c = ?
+returns-2 c = sym (too-many-places (c .before .before .before .before .args .word .now) (c .before .before .find .result) (c .before .before .find .ensures) (c .before .if1 .left) (c .if2 .taken))
 
 -- src/lib.rt:363:17
 sub-whole : tie.Need-sub-whole
@@ -73,11 +76,14 @@ enum-told c = search needs
 
 -- src/lib.rt:351:1
 returns-3 : tie.Need-returns-3
-returns-3 c = ?
+returns-3 c =
+    let m = c .before .before .before .m .given .0 .0 in
+    c .fraction2 .ensures
+    ∙ sym (goes-on (c .before .before .before .before .before .before .before .before .before .before .before .args .word .now) (c .before .before .before .before .before .before .before .before .before .find .result) (c .before .before .before .before .before .before .before .before .before .find .ensures) m (c .before .before .before .before .before .before .before .before .if1 .left) (c .before .before .before .before .before .before .before .if2 .left) (sym (c .before .before .before .before .before .whole .ensures) ∙ c .before .before .before .m .given .1))
 
 -- src/lib.rt:351:1
 returns-4 : tie.Need-returns-4
-returns-4 c = ?
+returns-4 c = sym (unreadable-before (c .before .before .before .before .before .before .before .before .args .word .now) (c .before .before .before .before .before .before .find .result) (c .before .before .before .before .before .before .find .ensures) (c .before .before .before .before .before .if1 .left) (sym (c .before .before .whole .ensures) ∙ c .enum-told .given .1))
 
 pub decimal-spec : {M : Type 1} → statement M
 decimal-spec =

@@ -1,3 +1,9 @@
+use borrow.Rule.Slice.PartAt.{part-to-end}
+use Rattle.script.proofs.Decimals.{by-first-byte, empty-float}
+use borrow.Author.Tests.{eq-eqb, ne-eqb}
+use lib.Ieee.{div, ofBits}
+use mathlib.Core.Path.{sym}
+use native.Mathlib.Omega.{arith}
 use borrow.Author.Needs.{needs}
 use Rattle.script.proofs.float.Statement.{statement}
 use Rattle.script.proofs.float.Tie as tie
@@ -10,7 +16,7 @@ use Rattle.script.proofs.same.Reads as same-reads
 
 -- src/lib.rt:396:9
 returns : tie.Need-returns
-returns c = ?
+returns c = sym (empty-float (c .before .before .args .word .now) (c .if1 .taken))
 
 -- src/lib.rt:398:8
 shared-slice-read-if2 : tie.Need-shared-slice-read-if2
@@ -38,7 +44,9 @@ negative-requires c κs = search needs
 
 -- src/lib.rt:399:9
 returns-2 : tie.Need-returns-2
-returns-2 c = ?
+returns-2 c =
+    let w = c .before .before .before .before .before .before .before .args .word .now in
+    rw (by-first-byte w (omega arith), eq-eqb _ _ (c .before .before .before .if2 .taken), c .negative .ensures, c .before .magnitude .ensures, part-to-end w 1)
 
 -- src/lib.rt:401:8
 shared-slice-read-if3 : tie.Need-shared-slice-read-if3
@@ -62,7 +70,9 @@ pattern-requires c κs = search needs
 
 -- src/lib.rt:402:9
 returns-3 : tie.Need-returns-3
-returns-3 c = ?
+returns-3 c =
+    let w = c .before .before .before .before .before .before .before .before .args .word .now in
+    rw (by-first-byte w (omega arith), ne-eqb _ _ (c .before .before .before .before .if2 .left), eq-eqb _ _ (c .before .before .if3 .taken), c .pattern .ensures, part-to-end w 1)
 
 -- src/lib.rt:404:19
 slice-aggregate-same : tie.Need-slice-aggregate-same
@@ -74,7 +84,10 @@ same-requires c κs = search needs
 
 -- src/lib.rt:405:9
 returns-4 : tie.Need-returns-4
-returns-4 c = ?
+unfolding div ofBits
+returns-4 c =
+    let w = c .before .before .before .before .before .before .before .before .before .args .word .now in
+    rw (by-first-byte w (omega arith), ne-eqb _ _ (c .before .before .before .before .before .if2 .left), ne-eqb _ _ (c .before .before .before .if3 .left), ← (c .before .same .ensures), c .if4 .taken)
 
 -- src/lib.rt:407:5
 magnitude-requires-2 : tie.Need-magnitude-requires-2
@@ -82,7 +95,9 @@ magnitude-requires-2 c κs = search needs
 
 -- src/lib.rt:392:1
 returns-5 : tie.Need-returns-5
-returns-5 c = ?
+returns-5 c =
+    let w = c .before .before .before .before .before .before .before .before .before .before .args .word .now in
+    rw (by-first-byte w (omega arith), ne-eqb _ _ (c .before .before .before .before .before .before .if2 .left), ne-eqb _ _ (c .before .before .before .before .if3 .left), ← (c .before .before .same .ensures), c .before .if4 .left) (c .magnitude2 .ensures)
 
 pub float-spec : {M : Type 1} → statement M
 float-spec =

@@ -1,3 +1,8 @@
+use Rattle.script.specs.declared.FloatWord.the-variants.{Value}
+use Rattle.script.proofs.Scaling.{rounded-once, whole-fits}
+use Rattle.script.proofs.Digits.{whole-value}
+use mathlib.Core.Path.{_∙_, ap, sym}
+use native.Mathlib.Omega.{arith}
 use borrow.Author.Needs.{needs}
 use Rattle.script.proofs.fraction.Statement.{statement}
 use Rattle.script.proofs.fraction.Tie as tie
@@ -15,7 +20,9 @@ enum-known-m c = search needs
 
 -- src/lib.rt:345:51
 int-to-float-t7 : tie.Need-int-to-float-t7
-int-to-float-t7 c = ?
+int-to-float-t7 c =
+    let m = c .before .before .m .given .0 .0 in
+    whole-fits m (whole-value 10 16777215 (c .before .before .before .before .before .before .args .first) (c .before .before .before .before .before .before .args .digits .now) m (sym (c .before .before .before .before .whole .ensures) ∙ c .before .before .m .given .1) .2)
 
 -- src/lib.rt:345:63
 mul-t9 : tie.Need-mul-t9
@@ -31,7 +38,10 @@ enum-told c = search needs
 
 -- src/lib.rt:340:1
 returns : tie.Need-returns
-returns c = ?
+returns c =
+    let m = c .before .before .m .given .0 .0 in
+    let e = sym (c .before .before .before .before .whole .ensures) ∙ c .before .before .m .given .1 in
+    rw e (ap Value (rounded-once m (c .before .before .before .before .before .before .args .places) (whole-value 10 16777215 (c .before .before .before .before .before .before .args .first) (c .before .before .before .before .before .before .args .digits .now) m e .2) (omega arith)))
 
 -- src/lib.rt:340:1
 returns-2 : tie.Need-returns-2

@@ -1,3 +1,4 @@
+use lib.Ieee.{div, ofBits}
 use Rattle.script.specs.Floats.{magnitudeOf}
 use borrow.Author.Needs.{needs}
 use Rattle.script.proofs.magnitude.Statement.{statement}
@@ -17,8 +18,8 @@ same-requires c κs = search needs
 
 -- src/lib.rt:374:9
 returns : tie.Need-returns
-unfolding magnitudeOf
-returns c = ?
+unfolding magnitudeOf div ofBits
+returns c = rw (← (c .before .same .ensures), c .if1 .taken)
 
 -- src/lib.rt:376:19
 slice-aggregate-same-2 : tie.Need-slice-aggregate-same-2
@@ -31,7 +32,7 @@ same-requires-2 c κs = search needs
 -- src/lib.rt:377:9
 returns-2 : tie.Need-returns-2
 unfolding magnitudeOf
-returns-2 c = ?
+returns-2 c = rw (← (c .before .before .before .before .same .ensures), c .before .before .before .if1 .left, ← (c .before .same2 .ensures), c .if2 .taken)
 
 -- src/lib.rt:379:5
 decimal-requires : tie.Need-decimal-requires
@@ -40,7 +41,7 @@ decimal-requires c κs = search needs
 -- src/lib.rt:370:1
 returns-3 : tie.Need-returns-3
 unfolding magnitudeOf
-returns-3 c = ?
+returns-3 c = rw (← (c .before .before .before .before .before .same .ensures), c .before .before .before .before .if1 .left, ← (c .before .before .same2 .ensures), c .before .if2 .left) (c .decimal .ensures)
 
 pub magnitude-spec : {M : Type 1} → statement M
 magnitude-spec =

@@ -35,7 +35,7 @@ digit-requires c κs = search needs
 
 -- src/lib.rt:236:13
 returns-2 : tie.Need-returns-2 Inv-loop μ-loop
-returns-2 c = 
+returns-2 c =
     let i = c .before .before .before .before .loop .inv in
     sym (at-other (c .before .before .before .before .before .before .before .args .base) (c .before .before .before .before .before .before .before .args .most) (c .before .before .before .before .before .before .before .args .first) (c .before .before .before .before .before .before .before .args .s .now) (c .before .before .before .before .loop .n) (c .before .before .before .before .loop .i) (i .4) (i .5) (c .before .before .before .loop-test .taken) (rw (c .before .digit .ensures) at (c .if2 .taken)))
 
@@ -45,7 +45,7 @@ cast-more c = search needs
 
 -- src/lib.rt:238:20
 mul-more : tie.Need-mul-more Inv-loop μ-loop
-mul-more c = 
+mul-more c =
     let f = shift-fits (c .before .before .before .before .loop .n) (c .before .before .before .before .before .before .before .args .base) (omega arith) (omega arith) in
     omega arith
 
@@ -55,13 +55,13 @@ cast-more-2 c = search needs
 
 -- src/lib.rt:238:20
 add-more : tie.Need-add-more Inv-loop μ-loop
-add-more c = 
+add-more c =
     let f = shift-fits (c .before .before .before .before .loop .n) (c .before .before .before .before .before .before .before .args .base) (omega arith) (omega arith) in
     omega arith
 
 -- src/lib.rt:240:13
 returns-3 : tie.Need-returns-3 Inv-loop μ-loop
-returns-3 c = 
+returns-3 c =
     let i = c .before .before .before .before .before .loop .inv in
     sym (past-most (c .before .before .before .before .before .before .before .before .args .base) (c .before .before .before .before .before .before .before .before .args .most) (c .before .before .before .before .before .before .before .before .args .first) (c .before .before .before .before .before .before .before .before .args .s .now) (c .before .before .before .before .before .loop .n) (c .before .before .before .before .before .loop .i) (i .4) (i .5) (c .before .before .before .before .loop-test .taken) (omega arith) (rw (c .before .before .digit .ensures) at (c .if3 .taken)))
 
@@ -79,7 +79,7 @@ loop-less c = search needs
 
 -- src/lib.rt:233:5
 loop-again : tie.Need-loop-again Inv-loop μ-loop
-loop-again c = 
+loop-again c =
     let i = c .before .before .before .before .before .loop .inv in (
       omega arith,
       i .1,
@@ -91,7 +91,7 @@ loop-again c =
 
 -- src/lib.rt:224:1
 returns-4 : tie.Need-returns-4 Inv-loop μ-loop
-returns-4 c = 
+returns-4 c =
     let i = c .before .loop .inv in
     sym (at-end (c .before .before .before .before .args .base) (c .before .before .before .before .args .most) (c .before .before .before .before .args .first) (c .before .before .before .before .args .s .now) (c .before .loop .n) (c .before .loop .i) (i .4) (i .5) (c .loop-test .left) (i .1) (i .3 (omega arith)))
 

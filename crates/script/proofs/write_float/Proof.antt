@@ -1,3 +1,5 @@
+use mathlib.Core.Path.{_∙_}
+use Rattle.script.specs.Writing.{floatWritten}
 use borrow.Author.Needs.{needs}
 use Rattle.script.proofs.write_float.Statement.{statement}
 use Rattle.script.proofs.write_float.Tie as tie
@@ -29,7 +31,8 @@ same-length c = search needs
 
 -- src/lib.rt:509:1
 returns : tie.Need-returns
-returns c = ?
+unfolding floatWritten
+returns c = c .before .before .write-word .ensures ∙ rw (c .before .before .before .before .before .hex-digits .ensures, c .before .before .before .before .before .before .bits-of .ensures)
 
 pub write-float-spec : {M : Type 1} → statement M
 write-float-spec =

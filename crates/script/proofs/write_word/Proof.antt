@@ -1,6 +1,6 @@
 use native.Mathlib.Numerals.{add-one}
 use Rattle.script.proofs.Storing.{no-room, all-stored}
-use lib.Seq.{paste}
+use lib.Seq.{paste, paste-zero, paste-suc}
 use mathlib.Core.Path.{_≡_, refl, sym, ap, _∙_}
 use Prim.Native.Nat.{ℕ, _+_, _-_, _≤_, _<_}
 use native.Mathlib.Omega.{arith}
@@ -55,11 +55,11 @@ loop-less c = search needs
 
 -- src/lib.rt:450:5
 loop-again : tie.Need-loop-again Inv-loop μ-loop
-loop-again c = 
+loop-again c =
     let i = c .before .before .loop .inv in (
       i .0,
       omega arith,
-      length-set _ _ _ ∙ i .2,
+      simp length-set (i .2),
       rw (i .3, add-one) (paste-suc (c .before .before .before .before .before .args .out .now) (c .before .before .before .before .before .args .at) (c .before .before .before .before .before .args .word .now) (c .before .before .loop .i) 0 (omega arith) (c .before .loop-test .taken)),
     )
 
@@ -73,7 +73,7 @@ same-length c = search needs
 
 -- src/lib.rt:440:1
 returns-3 : tie.Need-returns-3 Inv-loop μ-loop
-returns-3 c = 
+returns-3 c =
     let i = c .before .loop .inv in
     let e : c .before .loop .i ≡ length (c .before .before .before .before .args .word .now) = omega arith in
     rw (i .3, e) (all-stored (c .before .before .before .before .args .out .now) (c .before .before .before .before .args .at) (c .before .before .before .before .args .word .now) (i .0))
