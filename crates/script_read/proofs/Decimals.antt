@@ -1,7 +1,7 @@
 -- A decimal with a point: its digits, read one row after the other, are all digits together. Assumes nothing.
 use mathlib.Core.Path.{_≡_, refl, sym, ap, _∙_}
 use mathlib.Core.Bool.{Bool, true, false, cond}
-use mathlib.Core.List.{List, [], _∷_, _++_}
+use mathlib.Core.List.{List, [], _∷_}
 use Prim.Native.Nat.{ℕ, _+_, _-_, _≤_, _<_}
 use native.Mathlib.Nat.{zero-add, sub-zero}
 use native.Mathlib.Numerals.{add-one}
@@ -16,9 +16,7 @@ use Rattle.script_read.proofs.Digits.{whole-value, whole-too-large, not
 use Rattle.script_words.specs.Words.{bytesBefore, sameBytes}
 use Rattle.script_read.specs.Numbers.{someDigits, wholeOf}
 use Rattle.script_read.specs.Floats.{scaledBy, decimalBy, pointedOf, point, decimalOf, nanWord, negated, magnitudeOf, patternOf, floatOf}
-use Rattle.script_read.specs.declared.NumberWord.{NumberWord}
 use Rattle.script_read.specs.declared.NumberWord.the-variants as number
-use Rattle.script_read.specs.declared.FloatWord.{FloatWord}
 use Rattle.script_read.specs.declared.FloatWord.the-variants.{Value, Unreadable}
 
 module _ (before after : List ℕ) where

@@ -1,9 +1,9 @@
 -- Floats: bits in hexadecimal, names, and decimals.
 use Prim.Native.Nat.{ℕ, suc, _^_}
-use mathlib.Core.Bool.{Bool, true, false, cond, _&&_}
+use mathlib.Core.Bool.{false, cond, _&&_}
 use mathlib.Core.List.{List, [], _∷_, _++_}
 use lib.Dec.{eqb, ltb, leb}
-use lib.ListN.{length, getD, take, drop}
+use lib.ListN.{length, take, drop}
 use lib.Ieee.{Float, nan, inf, binary32, round, neg, ofBits}
 use Rattle.script_words.specs.Words.{bytesBefore, nextWord, partOf, sameBytes}
 use Rattle.script_read.specs.Numbers.{someDigits, wholeOf}

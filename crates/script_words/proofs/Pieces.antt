@@ -1,6 +1,6 @@
 -- A line in pieces: what it shows by its bytes one after the other, and that this tells how it is taken. Assumes nothing.
-use mathlib.Core.Path.{_≡_, refl, sym, ap, _∙_}
-use mathlib.Core.Bool.{Bool, true, false, cond, not, _||_}
+use mathlib.Core.Path.{_≡_, refl, sym}
+use mathlib.Core.Bool.{Bool, true, false, cond, _||_}
 use mathlib.Core.List.{List, [], _∷_, _++_}
 use Prim.Native.Nat.{ℕ, zero, suc, _+_, _≤_, _<_}
 use native.Mathlib.Nat.{zero-add}
@@ -15,7 +15,6 @@ use Rattle.script_words.specs.Words.{space, run, isSpace, isOther, wordA
 use Rattle.script_words.specs.Lines.{hash, longestLine, seenStep, seenAfter, kindOf, isPassed, lineKind}
 use Rattle.script_words.specs.declared.Seen.{Seen}
 use Rattle.script_words.specs.declared.Seen.the-variants.{Nothing, Spaces, Comment, Words}
-use Rattle.script_words.specs.declared.Line.{Line}
 use Rattle.script_words.specs.declared.Line.the-variants.{Passed, TooLong, Read}
 
 -- ---- one byte more, and the end

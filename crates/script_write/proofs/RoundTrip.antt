@@ -1,15 +1,14 @@
 -- What is written is read back: every number, and every float by the digits of its bits. Assumes nothing.
-use mathlib.Core.Path.{_≡_, refl, sym, ap, _∙_, subst}
-use mathlib.Core.Bool.{Bool, true, false, cond, not, _&&_}
+use mathlib.Core.Path.{_≡_, refl, ap, _∙_}
+use mathlib.Core.Bool.{Bool, true, false, cond}
 use mathlib.Core.List.{List, [], _∷_, _++_}
-use Prim.Native.Nat.{ℕ, zero, suc, _+_, _-_, _*_, _/_, _%_, _^_, _≤_, _<_}
+use Prim.Native.Nat.{ℕ, zero, suc, _+_, _*_, _/_, _%_, _^_, _≤_, _<_}
 use native.Mathlib.Nat.{mod-lt, mod-eq-of-lt, div-add-mod', div-lt-iff-lt-mul, pow-suc}
-use native.Mathlib.Numerals.{add-one}
 use native.Mathlib.Omega.{arith}
 use borrow.Author.Tests.{lt-ltb, ltb-true, ltb-false}
 use lib.Dec.{T, ltb}
 use lib.ListN.{length, length-append}
-use lib.Ieee.{Float, nan, inf, fin, binary32, isNan, fits, ofBits, toBits}
+use lib.Ieee.{Float, nan, inf, fin, binary32, isNan, fits, ofBits}
 use lib.Ieee.Bits.{ofBits-toBits, toBits-lt}
 use Rattle.script_read.proofs.Digits.{is-decimal, is-lower, value-rows, digits-rows, is-whole}
 use Rattle.script_read.specs.Numbers.{digitOf, areDigits, valueFrom, wholeOf, numberOf}

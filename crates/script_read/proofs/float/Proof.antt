@@ -1,99 +1,75 @@
+-- `float`: by the first byte, then by name. Assumes nothing.
 use borrow.Rule.Slice.PartAt.{part-to-end}
-use Rattle.script_read.proofs.Decimals.{by-first-byte, empty-float}
 use borrow.Author.Tests.{eq-eqb, ne-eqb}
 use lib.Ieee.{div, ofBits}
 use mathlib.Core.Path.{sym}
 use native.Mathlib.Omega.{arith}
 use borrow.Author.Needs.{needs}
+use Rattle.script_read.proofs.Decimals.{by-first-byte, empty-float}
 use Rattle.script_read.proofs.float.Statement.{statement}
 use Rattle.script_read.proofs.float.Tie as tie
-use Rattle.script_read.proofs.float.Reads as reads
-use Rattle.script_read.proofs.float.Lts as lts
-use Rattle.script_read.proofs.magnitude.Reads as magnitude-reads
-use Rattle.script_read.proofs.negative.Reads as negative-reads
-use Rattle.script_read.proofs.pattern.Reads as pattern-reads
-use Rattle.script_words.proofs.same.Reads as same-reads
 
--- src/lib.rt:396:9
 returns : tie.Need-returns
 returns c = sym (empty-float (c .before .before .args .word .now) (c .if1 .taken))
 
--- src/lib.rt:398:8
 shared-slice-read-if2 : tie.Need-shared-slice-read-if2
 shared-slice-read-if2 c = search needs
 
--- src/lib.rt:399:35
 sub-magnitude : tie.Need-sub-magnitude
 sub-magnitude c = search needs
 
--- src/lib.rt:399:35
 part-magnitude-start : tie.Need-part-magnitude-start
 part-magnitude-start c = search needs
 
--- src/lib.rt:399:35
 part-magnitude-end : tie.Need-part-magnitude-end
 part-magnitude-end c = search needs
 
--- src/lib.rt:399:25
 magnitude-requires : tie.Need-magnitude-requires
 magnitude-requires c κs = search needs
 
--- src/lib.rt:399:9
 negative-requires : tie.Need-negative-requires
 negative-requires c κs = search needs
 
--- src/lib.rt:399:9
 returns-2 : tie.Need-returns-2
 returns-2 c =
     let w = c .before .before .before .before .before .before .before .args .word .now in
     rw (by-first-byte w (omega arith), eq-eqb _ _ (c .before .before .before .if2 .taken), c .negative .ensures, c .before .magnitude .ensures, part-to-end w 1)
 
--- src/lib.rt:401:8
 shared-slice-read-if3 : tie.Need-shared-slice-read-if3
 shared-slice-read-if3 c = search needs
 
--- src/lib.rt:402:24
 sub-pattern : tie.Need-sub-pattern
 sub-pattern c = search needs
 
--- src/lib.rt:402:24
 part-pattern-start : tie.Need-part-pattern-start
 part-pattern-start c = search needs
 
--- src/lib.rt:402:24
 part-pattern-end : tie.Need-part-pattern-end
 part-pattern-end c = search needs
 
--- src/lib.rt:402:9
 pattern-requires : tie.Need-pattern-requires
 pattern-requires c κs = search needs
 
--- src/lib.rt:402:9
 returns-3 : tie.Need-returns-3
 returns-3 c =
     let w = c .before .before .before .before .before .before .before .before .args .word .now in
     rw (by-first-byte w (omega arith), ne-eqb _ _ (c .before .before .before .before .if2 .left), eq-eqb _ _ (c .before .before .if3 .taken), c .pattern .ensures, part-to-end w 1)
 
--- src/lib.rt:404:19
 slice-aggregate-same : tie.Need-slice-aggregate-same
 slice-aggregate-same c = search needs
 
--- src/lib.rt:404:8
 same-requires : tie.Need-same-requires
 same-requires c κs = search needs
 
--- src/lib.rt:405:9
 returns-4 : tie.Need-returns-4
 unfolding div ofBits
 returns-4 c =
     let w = c .before .before .before .before .before .before .before .before .before .args .word .now in
     rw (by-first-byte w (omega arith), ne-eqb _ _ (c .before .before .before .before .before .if2 .left), ne-eqb _ _ (c .before .before .before .if3 .left), ← (c .before .same .ensures), c .if4 .taken)
 
--- src/lib.rt:407:5
 magnitude-requires-2 : tie.Need-magnitude-requires-2
 magnitude-requires-2 c κs = search needs
 
--- src/lib.rt:392:1
 returns-5 : tie.Need-returns-5
 returns-5 c =
     let w = c .before .before .before .before .before .before .before .before .before .before .args .word .now in

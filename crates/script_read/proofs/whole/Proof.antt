@@ -1,99 +1,92 @@
+-- `whole`: the digits passed make n, and those that are left go on from it; n only grows, so past the most it stays there. Assumes nothing.
+use mathlib.Core.Path.{_≡_, sym}
+use Prim.Native.Nat.{_-_, _≤_, _<_}
+use native.Mathlib.Omega.{arith}
+use lib.ListN.{length, drop}
+use borrow.Author.Needs.{needs}
 use Rattle.script_read.proofs.Digits.{at-end, at-other, digits-go, is-empty, past-most, shift-fits, value-goes}
 use Rattle.script_read.specs.Numbers.{areDigits, valueFrom}
-use mathlib.Core.Path.{_≡_, refl, sym, ap, _∙_}
-use Prim.Native.Nat.{ℕ, _+_, _-_, _≤_, _<_}
-use native.Mathlib.Omega.{arith}
-use lib.ListN.{length, take, drop, getD}
-use borrow.Author.Needs.{needs}
 use Rattle.script_read.proofs.whole.Statement.{statement}
 use Rattle.script_read.proofs.whole.Tie as tie
-use Rattle.script_read.proofs.whole.Reads as reads
-use Rattle.script_read.proofs.whole.Lts as lts
-use Rattle.script_read.proofs.digit.Reads as digit-reads
 
 abbrev Inv-loop : tie.InvT-loop
-Inv-loop s base most first n₀ i₀ n i = (n ≤ 4294967295) × (0 < length s) × (i ≤ length s) × (0 < i → n ≤ most) × (areDigits base s ≡ areDigits base (drop i s)) × (valueFrom base first s ≡ valueFrom base n (drop i s))
+Inv-loop s base most first n₀ i₀ n i =
+    (n ≤ 4294967295) × (0 < length s) × (i ≤ length s) × (0 < i → n ≤ most)
+    × (areDigits base s ≡ areDigits base (drop i s)) × (valueFrom base first s ≡ valueFrom base n (drop i s))
 
 abbrev μ-loop : tie.MeasureT-loop
 μ-loop s base most first n₀ i₀ n i = length s - i
 
--- src/lib.rt:229:9
 returns : tie.Need-returns Inv-loop μ-loop
 returns c = sym (is-empty _ _ _ _ (c .if1 .taken))
 
--- src/lib.rt:233:5
 loop-holds : tie.Need-loop-holds Inv-loop μ-loop
 loop-holds c = search needs
 
--- src/lib.rt:234:23
 shared-slice-read-digit : tie.Need-shared-slice-read-digit Inv-loop μ-loop
 shared-slice-read-digit c = search needs
 
--- src/lib.rt:234:13
 digit-requires : tie.Need-digit-requires Inv-loop μ-loop
 digit-requires c κs = search needs
 
--- src/lib.rt:236:13
 returns-2 : tie.Need-returns-2 Inv-loop μ-loop
 returns-2 c =
-    let i = c .before .before .before .before .loop .inv in
-    sym (at-other (c .before .before .before .before .before .before .before .args .base) (c .before .before .before .before .before .before .before .args .most) (c .before .before .before .before .before .before .before .args .first) (c .before .before .before .before .before .before .before .args .s .now) (c .before .before .before .before .loop .n) (c .before .before .before .before .loop .i) (i .4) (i .5) (c .before .before .before .loop-test .taken) (rw (c .before .digit .ensures) at (c .if2 .taken)))
+    let k = c .before .before .before .before .loop in
+    let a = c .before .before .before .before .before .before .before .args in
+    let i = k .inv in
+    sym (at-other (a .base) (a .most) (a .first) (a .s .now) (k .n) (k .i) (i .4) (i .5) (c .before .before .before .loop-test .taken) (rw (c .before .digit .ensures) at (c .if2 .taken)))
 
--- src/lib.rt:238:21
 cast-more : tie.Need-cast-more Inv-loop μ-loop
 cast-more c = search needs
 
--- src/lib.rt:238:20
 mul-more : tie.Need-mul-more Inv-loop μ-loop
 mul-more c =
     let f = shift-fits (c .before .before .before .before .loop .n) (c .before .before .before .before .before .before .before .args .base) (omega arith) (omega arith) in
     omega arith
 
--- src/lib.rt:238:50
 cast-more-2 : tie.Need-cast-more-2 Inv-loop μ-loop
 cast-more-2 c = search needs
 
--- src/lib.rt:238:20
 add-more : tie.Need-add-more Inv-loop μ-loop
 add-more c =
     let f = shift-fits (c .before .before .before .before .loop .n) (c .before .before .before .before .before .before .before .args .base) (omega arith) (omega arith) in
     omega arith
 
--- src/lib.rt:240:13
 returns-3 : tie.Need-returns-3 Inv-loop μ-loop
 returns-3 c =
-    let i = c .before .before .before .before .before .loop .inv in
-    sym (past-most (c .before .before .before .before .before .before .before .before .args .base) (c .before .before .before .before .before .before .before .before .args .most) (c .before .before .before .before .before .before .before .before .args .first) (c .before .before .before .before .before .before .before .before .args .s .now) (c .before .before .before .before .before .loop .n) (c .before .before .before .before .before .loop .i) (i .4) (i .5) (c .before .before .before .before .loop-test .taken) (omega arith) (rw (c .before .before .digit .ensures) at (c .if3 .taken)))
+    let k = c .before .before .before .before .before .loop in
+    let a = c .before .before .before .before .before .before .before .before .args in
+    let i = k .inv in
+    sym (past-most (a .base) (a .most) (a .first) (a .s .now) (k .n) (k .i) (i .4) (i .5) (c .before .before .before .before .loop-test .taken) (omega arith) (rw (c .before .before .digit .ensures) at (c .if3 .taken)))
 
--- src/lib.rt:242:13
 cast-n : tie.Need-cast-n Inv-loop μ-loop
 cast-n c = search needs
 
--- src/lib.rt:243:9
 add-i : tie.Need-add-i Inv-loop μ-loop
 add-i c = search needs
 
--- src/lib.rt:233:5
 loop-less : tie.Need-loop-less Inv-loop μ-loop
 loop-less c = search needs
 
--- src/lib.rt:233:5
 loop-again : tie.Need-loop-again Inv-loop μ-loop
 loop-again c =
-    let i = c .before .before .before .before .before .loop .inv in (
+    let k = c .before .before .before .before .before .loop in
+    let a = c .before .before .before .before .before .before .before .before .args in
+    let i = k .inv in (
       omega arith,
       i .1,
       omega arith,
       (λ z. omega arith),
-      digits-go (c .before .before .before .before .before .before .before .before .args .base) (c .before .before .before .before .before .before .before .before .args .most) (c .before .before .before .before .before .before .before .before .args .first) (c .before .before .before .before .before .before .before .before .args .s .now) (c .before .before .before .before .before .loop .n) (c .before .before .before .before .before .loop .i) (i .4) (i .5) (c .before .before .before .before .loop-test .taken) (rw (c .before .before .digit .ensures) at (c .before .if2 .left)),
-      rw (c .before .before .digit .ensures) (value-goes (c .before .before .before .before .before .before .before .before .args .base) (c .before .before .before .before .before .before .before .before .args .most) (c .before .before .before .before .before .before .before .before .args .first) (c .before .before .before .before .before .before .before .before .args .s .now) (c .before .before .before .before .before .loop .n) (c .before .before .before .before .before .loop .i) (i .4) (i .5) (c .before .before .before .before .loop-test .taken)),
+      digits-go (a .base) (a .most) (a .first) (a .s .now) (k .n) (k .i) (i .4) (i .5) (c .before .before .before .before .loop-test .taken) (rw (c .before .before .digit .ensures) at (c .before .if2 .left)),
+      rw (c .before .before .digit .ensures) (value-goes (a .base) (a .most) (a .first) (a .s .now) (k .n) (k .i) (i .4) (i .5) (c .before .before .before .before .loop-test .taken)),
     )
 
--- src/lib.rt:224:1
 returns-4 : tie.Need-returns-4 Inv-loop μ-loop
 returns-4 c =
-    let i = c .before .loop .inv in
-    sym (at-end (c .before .before .before .before .args .base) (c .before .before .before .before .args .most) (c .before .before .before .before .args .first) (c .before .before .before .before .args .s .now) (c .before .loop .n) (c .before .loop .i) (i .4) (i .5) (c .loop-test .left) (i .1) (i .3 (omega arith)))
+    let k = c .before .loop in
+    let a = c .before .before .before .before .args in
+    let i = k .inv in
+    sym (at-end (a .base) (a .most) (a .first) (a .s .now) (k .n) (k .i) (i .4) (i .5) (c .loop-test .left) (i .1) (i .3 (omega arith)))
 
 pub whole-spec : {M : Type 1} → statement M
 whole-spec =

@@ -1,16 +1,14 @@
-use Rattle.script_words.proofs.Runs.{run-ends, run-goes, run-stops}
+-- `find`: the bytes passed are other ones, and what is left to count is counted from there. Assumes nothing.
 use borrow.Author.Tests.{eq-eqb, ne-eqb}
 use mathlib.Core.Bool.{not}
-use Rattle.script_words.specs.Words.{bytesBefore, isOther}
-use mathlib.Core.Path.{_≡_, refl, sym, ap, _∙_}
-use Prim.Native.Nat.{ℕ, _+_, _-_, _≤_, _<_}
-use native.Mathlib.Omega.{arith}
-use lib.ListN.{length, take, drop, getD}
+use mathlib.Core.Path.{_≡_, sym, ap, _∙_}
+use Prim.Native.Nat.{_+_, _-_}
+use lib.ListN.{length, drop}
 use borrow.Author.Needs.{needs}
+use Rattle.script_words.proofs.Runs.{run-ends, run-goes, run-stops}
+use Rattle.script_words.specs.Words.{bytesBefore, isOther}
 use Rattle.script_words.proofs.find.Statement.{statement}
 use Rattle.script_words.proofs.find.Tie as tie
-use Rattle.script_words.proofs.find.Reads as reads
-use Rattle.script_words.proofs.find.Lts as lts
 
 abbrev Inv-loop : tie.InvT-loop
 Inv-loop s at byte i₀ i = at + bytesBefore byte (drop at s) ≡ i + bytesBefore byte (drop i s)
@@ -18,33 +16,35 @@ Inv-loop s at byte i₀ i = at + bytesBefore byte (drop at s) ≡ i + bytesBefor
 abbrev μ-loop : tie.MeasureT-loop
 μ-loop s at byte i₀ i = length s - i
 
--- src/lib.rt:18:5
 loop-holds : tie.Need-loop-holds Inv-loop μ-loop
 loop-holds c = search needs
 
--- src/lib.rt:19:12
 shared-slice-read-if1 : tie.Need-shared-slice-read-if1 Inv-loop μ-loop
 shared-slice-read-if1 c = search needs
 
--- src/lib.rt:20:13
 returns : tie.Need-returns Inv-loop μ-loop
-returns c = sym (c .before .before .before .loop .inv ∙ run-stops (isOther (c .before .before .before .before .args .byte)) (c .before .before .before .before .args .s .now) (c .before .before .before .loop .i) (c .before .before .loop-test .taken) (ap not (eq-eqb _ _ (c .if1 .taken))))
+returns c =
+    let k = c .before .before .before .loop in
+    let a = c .before .before .before .before .args in
+    sym (k .inv ∙ run-stops (isOther (a .byte)) (a .s .now) (k .i) (c .before .before .loop-test .taken) (ap not (eq-eqb _ _ (c .if1 .taken))))
 
--- src/lib.rt:22:9
 add-i : tie.Need-add-i Inv-loop μ-loop
 add-i c = search needs
 
--- src/lib.rt:18:5
 loop-less : tie.Need-loop-less Inv-loop μ-loop
 loop-less c = search needs
 
--- src/lib.rt:18:5
 loop-again : tie.Need-loop-again Inv-loop μ-loop
-loop-again c = c .before .before .before .loop .inv ∙ run-goes (isOther (c .before .before .before .before .args .byte)) (c .before .before .before .before .args .s .now) (c .before .before .before .loop .i) (c .before .before .loop-test .taken) (ap not (ne-eqb _ _ (c .if1 .left)))
+loop-again c =
+    let k = c .before .before .before .loop in
+    let a = c .before .before .before .before .args in
+    k .inv ∙ run-goes (isOther (a .byte)) (a .s .now) (k .i) (c .before .before .loop-test .taken) (ap not (ne-eqb _ _ (c .if1 .left)))
 
--- src/lib.rt:14:1
 returns-2 : tie.Need-returns-2 Inv-loop μ-loop
-returns-2 c = sym (c .before .loop .inv ∙ run-ends (isOther (c .before .before .args .byte)) (c .before .before .args .s .now) (c .before .loop .i) (c .loop-test .left))
+returns-2 c =
+    let k = c .before .loop in
+    let a = c .before .before .args in
+    sym (k .inv ∙ run-ends (isOther (a .byte)) (a .s .now) (k .i) (c .loop-test .left))
 
 pub find-spec : {M : Type 1} → statement M
 find-spec =

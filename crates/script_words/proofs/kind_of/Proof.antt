@@ -1,48 +1,38 @@
+-- `kind_of`: case by case. Assumes nothing.
 use borrow.Author.Tests.{le-leb, lt-leb}
-use Rattle.script_words.specs.Lines.{kindOf}
 use borrow.Author.Needs.{needs}
+use Rattle.script_words.specs.Lines.{kindOf}
 use Rattle.script_words.proofs.kind_of.Statement.{statement}
 use Rattle.script_words.proofs.kind_of.Tie as tie
-use Rattle.script_words.proofs.kind_of.Reads as reads
-use Rattle.script_words.proofs.kind_of.Lts as lts
 
--- src/lib.rt:108:16
 enum-told : tie.Need-enum-told
 enum-told c = search needs
 
--- src/lib.rt:114:26
 enum-told-2 : tie.Need-enum-told-2
 enum-told-2 c = search needs
 
--- src/lib.rt:115:25
 enum-told-3 : tie.Need-enum-told-3
 enum-told-3 c = search needs
 
--- src/lib.rt:116:26
 enum-told-4 : tie.Need-enum-told-4
 enum-told-4 c = search needs
 
--- src/lib.rt:103:1
 returns : tie.Need-returns
 unfolding kindOf
 returns c = rw (c .before .enum-told .given .1, le-leb _ _ (c .if1 .taken))
 
--- src/lib.rt:103:1
 returns-2 : tie.Need-returns-2
 unfolding kindOf
 returns-2 c = rw (c .before .enum-told .given .1, lt-leb _ _ (c .if1 .left))
 
--- src/lib.rt:103:1
 returns-3 : tie.Need-returns-3
 unfolding kindOf
 returns-3 c = rw (c .enum-told2 .given .1)
 
--- src/lib.rt:103:1
 returns-4 : tie.Need-returns-4
 unfolding kindOf
 returns-4 c = rw (c .enum-told3 .given .1)
 
--- src/lib.rt:103:1
 returns-5 : tie.Need-returns-5
 unfolding kindOf
 returns-5 c = rw (c .enum-told4 .given .1)

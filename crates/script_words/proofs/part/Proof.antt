@@ -1,54 +1,42 @@
+-- `part`: the part where both tests hold, else none. Assumes nothing.
 use borrow.Author.Tests.{le-leb, lt-leb}
-use Rattle.script_words.specs.Words.{partOf}
 use borrow.Author.Needs.{needs}
+use Rattle.script_words.specs.Words.{partOf}
 use Rattle.script_words.proofs.part.Statement.{statement}
 use Rattle.script_words.proofs.part.Tie as tie
-use Rattle.script_words.proofs.part.Reads as reads
-use Rattle.script_words.proofs.part.Lts as lts
 
--- src/lib.rt:167:13
 part-result-start : tie.Need-part-result-start
 part-result-start c = search needs
 
--- src/lib.rt:167:13
 part-result-end : tie.Need-part-result-end
 part-result-end c = search needs
 
--- src/lib.rt:169:13
 sub-result : tie.Need-sub-result
 sub-result c = search needs
 
--- src/lib.rt:169:13
 part-result-start-2 : tie.Need-part-result-start-2
 part-result-start-2 c = search needs
 
--- src/lib.rt:169:13
 part-result-end-2 : tie.Need-part-result-end-2
 part-result-end-2 c = search needs
 
--- src/lib.rt:172:9
 sub-result-2 : tie.Need-sub-result-2
 sub-result-2 c = search needs
 
--- src/lib.rt:172:9
 part-result-start-3 : tie.Need-part-result-start-3
 part-result-start-3 c = search needs
 
--- src/lib.rt:172:9
 part-result-end-3 : tie.Need-part-result-end-3
 part-result-end-3 c = search needs
 
--- src/lib.rt:162:1
 returns : tie.Need-returns
 unfolding partOf
 returns c = rw (le-leb _ _ (c .before .before .if1 .taken), le-leb _ _ (c .before .if2 .taken))
 
--- src/lib.rt:162:1
 returns-2 : tie.Need-returns-2
 unfolding partOf
 returns-2 c = rw (le-leb _ _ (c .before .before .if1 .taken), lt-leb _ _ (c .before .if2 .left))
 
--- src/lib.rt:162:1
 returns-3 : tie.Need-returns-3
 unfolding partOf
 returns-3 c = rw (lt-leb _ _ (c .before .if1 .left))

@@ -1,58 +1,46 @@
+-- `seen_step`: case by case. Assumes nothing.
 use borrow.Author.Tests.{eq-eqb, ne-eqb}
-use Rattle.script_words.specs.Lines.{seenStep}
 use borrow.Author.Needs.{needs}
+use Rattle.script_words.specs.Lines.{seenStep}
 use Rattle.script_words.proofs.seen_step.Statement.{statement}
 use Rattle.script_words.proofs.seen_step.Tie as tie
-use Rattle.script_words.proofs.seen_step.Reads as reads
-use Rattle.script_words.proofs.seen_step.Lts as lts
 
--- src/lib.rt:60:16
 enum-told : tie.Need-enum-told
 enum-told c = search needs
 
--- src/lib.rt:61:17
 returns : tie.Need-returns
 unfolding seenStep
 returns c = rw (c .before .enum-told .given .1, eq-eqb _ _ (c .if1 .taken))
 
--- src/lib.rt:70:16
 enum-told-2 : tie.Need-enum-told-2
 enum-told-2 c = search needs
 
--- src/lib.rt:76:26
 enum-told-3 : tie.Need-enum-told-3
 enum-told-3 c = search needs
 
--- src/lib.rt:77:24
 enum-told-4 : tie.Need-enum-told-4
 enum-told-4 c = search needs
 
--- src/lib.rt:55:1
 returns-2 : tie.Need-returns-2
 unfolding seenStep
 returns-2 c = rw (c .before .before .enum-told .given .1, ne-eqb _ _ (c .before .if1 .left), eq-eqb _ _ (c .if2 .taken))
 
--- src/lib.rt:55:1
 returns-3 : tie.Need-returns-3
 unfolding seenStep
 returns-3 c = rw (c .before .before .enum-told .given .1, ne-eqb _ _ (c .before .if1 .left), ne-eqb _ _ (c .if2 .left))
 
--- src/lib.rt:55:1
 returns-4 : tie.Need-returns-4
 unfolding seenStep
 returns-4 c = rw (c .before .enum-told2 .given .1, eq-eqb _ _ (c .if3 .taken))
 
--- src/lib.rt:55:1
 returns-5 : tie.Need-returns-5
 unfolding seenStep
 returns-5 c = rw (c .before .enum-told2 .given .1, ne-eqb _ _ (c .if3 .left))
 
--- src/lib.rt:55:1
 returns-6 : tie.Need-returns-6
 unfolding seenStep
 returns-6 c = rw (c .enum-told3 .given .1)
 
--- src/lib.rt:55:1
 returns-7 : tie.Need-returns-7
 unfolding seenStep
 returns-7 c = rw (c .enum-told4 .given .1)
