@@ -6,7 +6,7 @@ use lib.Dec.{eqb, ltb, leb}
 use lib.ListN.{length, take, drop}
 use lib.Ieee.{Float, nan, inf, binary32, round, neg, ofBits}
 use Rattle.script_words.specs.Words.{bytesBefore, nextWord, partOf, sameBytes}
-use Rattle.script_read.specs.Numbers.{someDigits, wholeOf}
+use Rattle.script_read.specs.Numbers.{someDigits, wholeOf, mostNumber}
 use Rattle.script_words.specs.declared.Word.{Word}
 use Rattle.script_words.specs.declared.Word.the-variants as word
 use Rattle.script_read.specs.declared.NumberWord.{NumberWord}
@@ -28,7 +28,7 @@ floatOfPattern number.Unreadable = Unreadable
 
 -- eight hexadecimal digits: the f32 of these bits
 unfoldable pub patternOf : List ℕ → FloatWord
-patternOf bs = cond (eqb (length bs) 8) (floatOfPattern (wholeOf 16 4294967295 0 bs)) Unreadable
+patternOf bs = cond (eqb (length bs) 8) (floatOfPattern (wholeOf 16 mostNumber 0 bs)) Unreadable
 
 -- ---- decimals
 
@@ -81,12 +81,19 @@ unfoldable pub negated : FloatWord → FloatWord
 negated (Value x) = Value (neg x)
 negated Unreadable = Unreadable
 
--- `-`, then what may have a sign; `x`, then eight hexadecimal digits; `nan`; or what may have a sign, without one
+-- `-` and `x`
+abbrev pub sign : ℕ
+sign = 45
+
+abbrev pub hexMark : ℕ
+hexMark = 120
+
+-- the sign, then what may have one; `x`, then eight hexadecimal digits; `nan`; or what may have a sign, without it
 unfoldable pub floatOf : List ℕ → FloatWord
 floatOf [] = Unreadable
 floatOf (b ∷ bs) =
-    cond (eqb b 45) (negated (magnitudeOf bs))
-    (cond (eqb b 120) (patternOf bs)
+    cond (eqb b sign) (negated (magnitudeOf bs))
+    (cond (eqb b hexMark) (patternOf bs)
     (cond (sameBytes (b ∷ bs) nanWord) (Value nan)
     (magnitudeOf (b ∷ bs))))
 

@@ -43,8 +43,12 @@ wholeOf base most n bs =
     (Value (valueFrom base n bs))
     Unreadable
 
+abbrev pub mostNumber : ℕ
+mostNumber = 4294967295
+
+-- decimal digits
 unfoldable pub numberOf : List ℕ → NumberWord
-numberOf word = wholeOf 10 4294967295 0 word
+numberOf word = wholeOf 10 mostNumber 0 word
 
 -- ---- as an argument
 

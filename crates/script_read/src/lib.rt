@@ -30,8 +30,8 @@ fn digit(byte: u8) -> u8
 }
 
 // The number of one or more digits in a base, which go on from `first`, where it is at most `most`.
-fn whole(s: &[u8], base: u8, most: u32, first: u32) -> NumberWord
-    requires { ⌜ 0 < base ⌝ }
+fn whole(s: &[u8], base: u8, most: u64, first: u32) -> NumberWord
+    requires { ⌜ (0 < base) × (most ≤ 4294967295) ⌝ }
     ensures { λ r. ⌜ r ≡ wholeOf base most first (now (s .entry)) ⌝ }
 {
     if s.len() == 0 {
@@ -45,7 +45,7 @@ fn whole(s: &[u8], base: u8, most: u32, first: u32) -> NumberWord
             return NumberWord::Unreadable;
         }
         let more = (n as u64) * (base as u64) + (d as u64);
-        if (most as u64) < more {
+        if most < more {
             return NumberWord::Unreadable;
         }
         n = more as u32;
@@ -54,11 +54,13 @@ fn whole(s: &[u8], base: u8, most: u32, first: u32) -> NumberWord
     NumberWord::Value(n)
 }
 
+const MOST_NUMBER: u64 = 4294967295;
+
 // A number: decimal digits, at most 4294967295.
 pub fn number(word: &[u8]) -> NumberWord
     ensures { λ r. ⌜ r ≡ numberOf (now (word .entry)) ⌝ }
 {
-    whole(word, 10, 4294967295, 0)
+    whole(word, 10, MOST_NUMBER, 0)
 }
 
 // What the next word of a line is as a number, and where it ends.
@@ -109,7 +111,7 @@ fn pattern(word: &[u8]) -> FloatWord
     if word.len() != 8 {
         return FloatWord::Unreadable;
     }
-    match whole(word, 16, 4294967295, 0) {
+    match whole(word, 16, MOST_NUMBER, 0) {
         NumberWord::Value(bits) => FloatWord::Value(float_of_bits(bits)),
         NumberWord::Unreadable => FloatWord::Unreadable,
     }
@@ -131,7 +133,7 @@ const TENS: [f32; 11] = [
 ];
 
 // All digits of a decimal together are below 16777216, and at most ten stand after its point.
-const MOST_DIGITS: u32 = 16777215;
+const MOST_DIGITS: u64 = 16777215;
 
 const MOST_PLACES: usize = 10;
 
