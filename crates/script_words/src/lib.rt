@@ -5,7 +5,7 @@ ghost use lib.ListN.{drop};
 ghost use Rattle.script_words.specs.Lines.{newlineAfter, seenStep, seenAfter, kindOf, lineKind};
 ghost use Rattle.script_words.specs.Words.{bytesBefore, spacesIn, nextWord, partOf, isLast, sameBytes};
 
-// The position of the first `byte` at or after a position; the line's end where there is none.
+// The position of the first `byte` at or after a position; where there is none the end, or the position itself past it.
 pub fn find(s: &[u8], at: usize, byte: u8) -> usize
     ensures { λ r. ⌜ r ≡ at + bytesBefore byte (drop at (now (s .entry))) ⌝ }
 {
