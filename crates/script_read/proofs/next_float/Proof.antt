@@ -1,0 +1,59 @@
+-- `next_float`: the next word, read as a float. Assumes nothing.
+use borrow.Author.Needs.{needs}
+use Rattle.script_read.specs.Floats.{nextFloat}
+use Rattle.script_read.proofs.next_float.Statement.{statement}
+use Rattle.script_read.proofs.next_float.Tie as tie
+
+next-word-requires : tie.Need-next-word-requires
+next-word-requires c κs = search needs
+
+enum-known-start : tie.Need-enum-known-start
+enum-known-start c = search needs
+
+part-requires : tie.Need-part-requires
+part-requires c κs = search needs
+
+float-requires : tie.Need-float-requires
+float-requires c κs = search needs
+
+enum-known-x : tie.Need-enum-known-x
+enum-known-x c = search needs
+
+enum-told : tie.Need-enum-told
+enum-told c = search needs
+
+enum-told-2 : tie.Need-enum-told-2
+enum-told-2 c = search needs
+
+returns : tie.Need-returns
+unfolding nextFloat
+returns c =
+    let p = c .before .before .before .before in
+    let w = p .before .before in
+    rw (← (w .before .before .next-word .ensures), w .start .given .1, ← (p .part .ensures), ← (c .before .before .before .float .ensures), c .before .x .given .1)
+
+returns-2 : tie.Need-returns-2
+unfolding nextFloat
+returns-2 c =
+    let p = c .before .before .before in
+    let w = p .before .before in
+    rw (← (w .before .before .next-word .ensures), w .start .given .1, ← (p .part .ensures), ← (c .before .before .float .ensures), c .enum-told .given .1)
+
+returns-3 : tie.Need-returns-3
+unfolding nextFloat
+returns-3 c = rw (← (c .before .before .next-word .ensures), c .enum-told2 .given .1)
+
+pub next-float-spec : {M : Type 1} → statement M
+next-float-spec =
+    tie.close
+    (tie.spec
+    next-word-requires
+    enum-known-start
+    part-requires
+    float-requires
+    enum-known-x
+    enum-told
+    enum-told-2
+    returns
+    returns-2
+    returns-3)

@@ -1,0 +1,4 @@
+pub mod Flags
+pub mod Runs
+pub mod Equal
+pub mod Pieces

@@ -1,0 +1,68 @@
+-- `same`: the bytes passed are the same, so the rest decides. Assumes nothing.
+use mathlib.Core.Path.{_≡_, sym, _∙_}
+use Prim.Native.Nat.{_-_}
+use native.Mathlib.Omega.{arith}
+use lib.ListN.{length, drop}
+use borrow.Author.Needs.{needs}
+use Rattle.script_words.proofs.Equal.{other-length, same-ends, same-goes, same-stops}
+use Rattle.script_words.specs.Words.{sameBytes}
+use Rattle.script_words.proofs.same.Statement.{statement}
+use Rattle.script_words.proofs.same.Tie as tie
+
+abbrev Inv-loop : tie.InvT-loop
+Inv-loop a b i₀ i = (length a ≡ length b) × (sameBytes a b ≡ sameBytes (drop i a) (drop i b))
+
+abbrev μ-loop : tie.MeasureT-loop
+μ-loop a b i₀ i = length a - i
+
+returns : tie.Need-returns Inv-loop μ-loop
+returns c = sym (other-length _ _ (c .if1 .taken))
+
+loop-holds : tie.Need-loop-holds Inv-loop μ-loop
+loop-holds c = search needs
+
+shared-slice-read-if2 : tie.Need-shared-slice-read-if2 Inv-loop μ-loop
+shared-slice-read-if2 c = search needs
+
+shared-slice-read-if2-2 : tie.Need-shared-slice-read-if2-2 Inv-loop μ-loop
+shared-slice-read-if2-2 c = search needs
+
+returns-2 : tie.Need-returns-2 Inv-loop μ-loop
+returns-2 c =
+    let k = c .before .before .before .before .loop in
+    let a = c .before .before .before .before .before .before .args in
+    sym (k .inv .1 ∙ same-stops (a .a .now) (a .b .now) (k .i) (c .before .before .before .loop-test .taken) (omega arith) (c .if2 .taken))
+
+add-i : tie.Need-add-i Inv-loop μ-loop
+add-i c = search needs
+
+loop-less : tie.Need-loop-less Inv-loop μ-loop
+loop-less c = search needs
+
+loop-again : tie.Need-loop-again Inv-loop μ-loop
+loop-again c =
+    let k = c .before .before .before .before .loop in
+    let a = c .before .before .before .before .before .before .args in
+    (k .inv .0, k .inv .1 ∙ same-goes (a .a .now) (a .b .now) (k .i) (c .before .before .before .loop-test .taken) (omega arith) (c .if2 .left))
+
+returns-3 : tie.Need-returns-3 Inv-loop μ-loop
+returns-3 c =
+    let k = c .before .loop in
+    let a = c .before .before .before .args in
+    sym (k .inv .1 ∙ same-ends (a .a .now) (a .b .now) (k .i) (c .loop-test .left) (omega arith))
+
+pub same-spec : {M : Type 1} → statement M
+same-spec =
+    tie.close
+    (tie.spec
+    Inv-loop
+    μ-loop
+    returns
+    loop-holds
+    shared-slice-read-if2
+    shared-slice-read-if2-2
+    returns-2
+    add-i
+    loop-less
+    loop-again
+    returns-3)
