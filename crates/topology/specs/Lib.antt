@@ -1,0 +1,7 @@
+pub mod Tables
+pub mod Above
+pub mod Parents
+pub mod Split
+pub mod Numbered
+pub mod Answers
+pub mod Words

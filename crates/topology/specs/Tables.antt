@@ -1,0 +1,34 @@
+-- Tests and values of the first n numbers.
+use Prim.Native.Nat.{ℕ, zero, suc}
+use mathlib.Core.Bool.{Bool, true, false, cond, _&&_, _||_}
+use mathlib.Core.List.{List, [], _∷_, _++_}
+use lib.Dec.{eqb}
+
+-- f 0, f 1, .. , n of them
+unfoldable pub each : {A : Type 0} → ℕ → (ℕ → A) → List A
+each zero f = []
+each (suc n) f = each n f ++ (f n ∷ [])
+
+-- does each of the first n pass?
+unfoldable pub allBelow : ℕ → (ℕ → Bool) → Bool
+allBelow zero test = true
+allBelow (suc n) test = allBelow n test && test n
+
+abbrev pub oneMore : Bool → ℕ → ℕ
+oneMore true n = suc n
+oneMore false n = n
+
+-- how many of the first n pass
+unfoldable pub countBelow : ℕ → (ℕ → Bool) → ℕ
+countBelow zero test = 0
+countBelow (suc n) test = oneMore (test n) (countBelow n test)
+
+-- does x stand in the list?
+unfoldable pub standsIn : ℕ → List ℕ → Bool
+standsIn x [] = false
+standsIn x (y ∷ ys) = eqb y x || standsIn x ys
+
+-- the last of a list that passes, d where none does
+unfoldable pub lastThat : (ℕ → Bool) → ℕ → List ℕ → ℕ
+lastThat test d [] = d
+lastThat test d (x ∷ xs) = lastThat test (cond (test x) x d) xs
