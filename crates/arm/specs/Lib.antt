@@ -1,1 +1,2 @@
-
+pub mod Arm
+pub mod HandedIn
