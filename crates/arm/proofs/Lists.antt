@@ -4,6 +4,7 @@ use mathlib.Core.Path.{_≡_, refl, sym, _∙_, ap}
 use mathlib.Core.List.{List, [], _∷_, map}
 use native.Mathlib.Omega.{arith}
 use native.Mathlib.Numerals.{add-one}
+use native.Mathlib.Nat.{sub-zero}
 use lib.ListN.{length, take, drop, getD, set, length-drop}
 use lib.Seq.{take-suc, take-suc-set, take-all}
 
@@ -21,6 +22,10 @@ module _ {A : Type 0} (s : List A) where
 
 pub tail : {A : Type 0} (xs : List A) (k : ℕ) → take (length xs - k) (drop k xs) ≡ drop k xs
 tail xs k = take-all (length xs - k) (drop k xs) (simp length-drop (omega arith))
+
+-- a part from the front of an array that is known
+pub front : {A : Type 0} {n m : ℕ} (xs ys : List A) → n ≡ m → xs ≡ ys → take (n - 0) xs ≡ take m ys
+front xs ys e f = rw (sub-zero, e, f)
 
 -- ---- f of each
 

@@ -43,10 +43,13 @@ unfoldable pub unique : List ℕ → Bool
 unique [] = true
 unique (tag ∷ later) = isNew tag later && unique later
 
-abbrev pub tagsUnique : Arm → Bool
+unfoldable pub tagsUnique : Arm → Bool
 tagsUnique a = unique (tagsOf a)
 
 -- ---- 4: parents are earlier, and a first one is 0; couplings' links are below the count
+
+unfoldable pub parentsEarlier : Arm → Bool
+parentsEarlier a = parentsFit (parentsOf a)
 
 unfoldable pub couplingLinksFit : ℕ → Coupling → Bool
 couplingLinksFit n c = ltb (c .link1) n && ltb (c .link2) n
@@ -55,7 +58,7 @@ abbrev pub couplingsLinksFit : Arm → Bool
 couplingsLinksFit a = every (couplingLinksFit (a .«link_count»)) (couplingsOf a)
 
 abbrev pub linkNumbersFit : Arm → Bool
-linkNumbersFit a = parentsFit (parentsOf a) && couplingsLinksFit a
+linkNumbersFit a = parentsEarlier a && couplingsLinksFit a
 
 -- ---- 5: masks are at most 7, a root's locked one is 7 or 0, couplings' axes are at most 2
 

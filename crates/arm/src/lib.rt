@@ -5,7 +5,7 @@ ghost use mathlib.Core.List.{map};
 ghost use Prim.Native.Nat.{min, _≤_};
 ghost use Rattle.limits.specs.Limits.{dofLimit};
 ghost use Rattle.arm.specs.Arm.{tagOf, parentOf, liveLinks, startAt, dofCountOf, maskAt, rowNumber};
-ghost use Rattle.arm.specs.HandedIn.{isNew, unique, jointMasksFit, jointFinite, linkFinite, angleFits, linkTestsOf, couplingLinksFit, couplingAxesFit, couplingFinite, couplingTestsOf, rootFits, rowFinite, rowsFinite, armRefusal};
+ghost use Rattle.arm.specs.HandedIn.{isNew, unique, tagsUnique, parentsEarlier, jointMasksFit, jointFinite, linkFinite, angleFits, linkTestsOf, couplingLinksFit, couplingAxesFit, couplingFinite, couplingTestsOf, rootFits, rowFinite, rowsFinite, armRefusal};
 use floats::all_finite;
 use floats::finite;
 use limits::COUPLINGS;
@@ -192,6 +192,14 @@ fn all_unique(tags: &[u32]) -> bool
     ok
 }
 
+fn tags_unique(arm: Arm) -> bool
+    ensures { λ r. ⌜ r ≡ tagsUnique arm ⌝ }
+{
+    let n = live_links(arm);
+    let tags = tags_of(arm);
+    all_unique(&tags[0..n])
+}
+
 // ---- Links
 
 fn masks_fit(j: Joint) -> bool
@@ -252,6 +260,14 @@ fn link_tests(arm: Arm) -> LinkTests
         floats,
         angles,
     }
+}
+
+fn parents_earlier(arm: Arm) -> bool
+    ensures { λ r. ⌜ r ≡ parentsEarlier arm ⌝ }
+{
+    let n = live_links(arm);
+    let parents = parents_of(arm);
+    parents_fit(&parents[0..n])
 }
 
 // A root's locked mask is 7 or 0.
@@ -345,9 +361,6 @@ fn rows_finite(arm: Arm) -> bool
 pub fn arm_refusal(arm: Arm) -> u8
     ensures { λ r. ⌜ r ≡ armRefusal arm ⌝ }
 {
-    let n = live_links(arm);
-    let tags = tags_of(arm);
-    let parents = parents_of(arm);
     let links = link_tests(arm);
     let couplings = coupling_tests(arm);
     lower(
@@ -356,9 +369,9 @@ pub fn arm_refusal(arm: Arm) -> u8
             2,
         ),
         lower(
-            unless(all_unique(&tags[0..n]), 3),
+            unless(tags_unique(arm), 3),
             lower(
-                unless(parents_fit(&parents[0..n]) & couplings.links, 4),
+                unless(parents_earlier(arm) & couplings.links, 4),
                 lower(
                     unless(links.masks & root_fits(arm) & couplings.axes, 5),
                     lower(

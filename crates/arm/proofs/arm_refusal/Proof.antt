@@ -1,6 +1,12 @@
-use Rattle.arm.proofs.Shape.{links-length}
-use Rattle.arm.proofs.Live.{parents-front, tags-front}
-use Rattle.arm.specs.HandedIn.{couplingTestsOf}
+use Rattle.topology.proofs.Fitting.{earlier, root}
+use Rattle.refusal.specs.Refusal.{unlessOf, lowerOf}
+use Prim.Native.Nat.{ℕ}
+use mathlib.Core.Bool.{Bool, _&&_}
+use mathlib.Core.Path.{_≡_}
+use Rattle.arm.specs.declared.Arm.{Arm}
+use Rattle.arm.specs.declared.LinkTests.{LinkTests}
+use Rattle.arm.specs.declared.CouplingTests.{CouplingTests}
+use Rattle.arm.specs.HandedIn.{couplingTestsOf, countsFit, parentsEarlier, rootFits, rowsFinite, tagsUnique, unique}
 use Rattle.arm.specs.HandedIn.{linkTestsOf}
 use Rattle.arm.specs.HandedIn.{armRefusal}
 use borrow.Author.Needs.{needs}
@@ -8,146 +14,111 @@ use Rattle.arm.proofs.arm_refusal.Statement.{statement}
 use Rattle.arm.proofs.arm_refusal.Tie as tie
 use Rattle.arm.proofs.arm_refusal.Reads as reads
 use Rattle.arm.proofs.arm_refusal.Lts as lts
-use Rattle.arm.proofs.all_unique.Reads as all-unique-reads
 use Rattle.arm.proofs.coupling_tests.Reads as coupling-tests-reads
 use Rattle.arm.proofs.link_tests.Reads as link-tests-reads
-use Rattle.arm.proofs.live_links.Reads as live-links-reads
-use Rattle.arm.proofs.parents_of.Reads as parents-of-reads
+use Rattle.arm.proofs.parents_earlier.Reads as parents-earlier-reads
 use Rattle.arm.proofs.root_fits.Reads as root-fits-reads
 use Rattle.arm.proofs.rows_finite.Reads as rows-finite-reads
-use Rattle.arm.proofs.tags_of.Reads as tags-of-reads
+use Rattle.arm.proofs.tags_unique.Reads as tags-unique-reads
 use Rattle.refusal.proofs.lower.Reads as lower-reads
 use Rattle.refusal.proofs.unless.Reads as unless-reads
-use Rattle.topology.proofs.parents_fit.Reads as parents-fit-reads
 
--- src/lib.rt:348:9
-live-links-requires : tie.Need-live-links-requires
-live-links-requires c κs = search needs
+module _ (a : Arm) (l : LinkTests) (c : CouplingTests) (unique earlier root rows : Bool) (el : l ≡ linkTestsOf a) (ec : c ≡ couplingTestsOf a)
+    (e₃ : unique ≡ tagsUnique a) (e₄ : earlier ≡ parentsEarlier a) (e₅ : root ≡ rootFits a) (e₇ : rows ≡ rowsFinite a) where
+  same : {u₂ u₃ u₄ u₅ u₇ u₉ l₇ l₅ l₄ l₃ l₂ : ℕ} → u₂ ≡ unlessOf (countsFit a) 2 → u₃ ≡ unlessOf unique 3
+      → u₄ ≡ unlessOf (earlier && c .links) 4 → u₅ ≡ unlessOf ((l .masks && root) && c .axes) 5
+      → u₇ ≡ unlessOf ((l .floats && c .floats) && rows) 7 → u₉ ≡ unlessOf (l .angles) 9
+      → l₇ ≡ lowerOf u₇ u₉ → l₅ ≡ lowerOf u₅ l₇ → l₄ ≡ lowerOf u₄ l₅ → l₃ ≡ lowerOf u₃ l₄ → l₂ ≡ lowerOf u₂ l₃ → l₂ ≡ armRefusal a
+  unfolding armRefusal linkTestsOf couplingTestsOf
+  same p₂ p₃ p₄ p₅ p₇ p₉ q₇ q₅ q₄ q₃ q₂ = rw (q₂, q₃, q₄, q₅, q₇, p₂, p₃, p₄, p₅, p₇, p₉, el, ec, e₃, e₄, e₅, e₇)
 
--- src/lib.rt:349:16
-tags-of-requires : tie.Need-tags-of-requires
-tags-of-requires c κs = search needs
-
--- src/lib.rt:350:19
-parents-of-requires : tie.Need-parents-of-requires
-parents-of-requires c κs = search needs
-
--- src/lib.rt:351:9
+-- src/lib.rt:364:9
 link-tests-requires : tie.Need-link-tests-requires
 link-tests-requires c κs = search needs
 
--- src/lib.rt:352:9
+-- src/lib.rt:365:9
 coupling-tests-requires : tie.Need-coupling-tests-requires
 coupling-tests-requires c κs = search needs
 
--- src/lib.rt:354:9
+-- src/lib.rt:367:9
 unless-requires : tie.Need-unless-requires
 unless-requires c κs = search needs
 
--- src/lib.rt:359:31
-sub-all-unique : tie.Need-sub-all-unique
-sub-all-unique c = search needs
+-- src/lib.rt:372:20
+tags-unique-requires : tie.Need-tags-unique-requires
+tags-unique-requires c κs = search needs
 
--- src/lib.rt:359:31
-part-all-unique-start : tie.Need-part-all-unique-start
-part-all-unique-start c = search needs
-
--- src/lib.rt:359:31
-part-all-unique-end : tie.Need-part-all-unique-end
-part-all-unique-end c = search needs
-
--- src/lib.rt:359:20
-all-unique-requires : tie.Need-all-unique-requires
-all-unique-requires c κs = search needs
-
--- src/lib.rt:359:13
+-- src/lib.rt:372:13
 unless-requires-2 : tie.Need-unless-requires-2
 unless-requires-2 c κs = search needs
 
--- src/lib.rt:361:36
-sub-parents-fit : tie.Need-sub-parents-fit
-sub-parents-fit c = search needs
+-- src/lib.rt:374:24
+parents-earlier-requires : tie.Need-parents-earlier-requires
+parents-earlier-requires c κs = search needs
 
--- src/lib.rt:361:36
-part-parents-fit-start : tie.Need-part-parents-fit-start
-part-parents-fit-start c = search needs
-
--- src/lib.rt:361:36
-part-parents-fit-end : tie.Need-part-parents-fit-end
-part-parents-fit-end c = search needs
-
--- src/lib.rt:361:24
-parents-fit-requires : tie.Need-parents-fit-requires
-parents-fit-requires c κs = search needs
-
--- src/lib.rt:361:17
+-- src/lib.rt:374:17
 unless-requires-3 : tie.Need-unless-requires-3
 unless-requires-3 c κs = search needs
 
--- src/lib.rt:363:42
+-- src/lib.rt:376:42
 root-fits-requires : tie.Need-root-fits-requires
 root-fits-requires c κs = search needs
 
--- src/lib.rt:363:21
+-- src/lib.rt:376:21
 unless-requires-4 : tie.Need-unless-requires-4
 unless-requires-4 c κs = search needs
 
--- src/lib.rt:366:63
+-- src/lib.rt:379:63
 rows-finite-requires : tie.Need-rows-finite-requires
 rows-finite-requires c κs = search needs
 
--- src/lib.rt:365:25
+-- src/lib.rt:378:25
 unless-requires-5 : tie.Need-unless-requires-5
 unless-requires-5 c κs = search needs
 
--- src/lib.rt:369:25
+-- src/lib.rt:382:25
 unless-requires-6 : tie.Need-unless-requires-6
 unless-requires-6 c κs = search needs
 
--- src/lib.rt:364:21
+-- src/lib.rt:377:21
 lower-requires : tie.Need-lower-requires
 lower-requires c κs = search needs
 
--- src/lib.rt:362:17
+-- src/lib.rt:375:17
 lower-requires-2 : tie.Need-lower-requires-2
 lower-requires-2 c κs = search needs
 
--- src/lib.rt:360:13
+-- src/lib.rt:373:13
 lower-requires-3 : tie.Need-lower-requires-3
 lower-requires-3 c κs = search needs
 
--- src/lib.rt:358:9
+-- src/lib.rt:371:9
 lower-requires-4 : tie.Need-lower-requires-4
 lower-requires-4 c κs = search needs
 
--- src/lib.rt:353:5
+-- src/lib.rt:366:5
 lower-requires-5 : tie.Need-lower-requires-5
 lower-requires-5 c κs = search needs
 
--- src/lib.rt:345:1
+-- src/lib.rt:361:1
 returns : tie.Need-returns
-unfolding armRefusal linkTestsOf couplingTestsOf
-returns c = cc (tags-front (c .before .before .before .before .before .before .before .before .before .before .before .before .before .before .before .before .before .before .before .before .before .before .before .before .before .before .before .before .before .before .before .args .arm) (links-length (c .before .before .before .before .before .before .before .before .before .before .before .before .before .before .before .before .before .before .before .before .before .before .before .before .before .before .before .before .before .before .before .args .arm) (c .before .before .before .before .before .before .before .before .before .before .before .before .before .before .before .before .before .before .before .before .before .before .before .before .before .before .before .before .before .before .before .good .0)), parents-front (c .before .before .before .before .before .before .before .before .before .before .before .before .before .before .before .before .before .before .before .before .before .before .before .before .before .before .before .before .before .before .before .args .arm) (links-length (c .before .before .before .before .before .before .before .before .before .before .before .before .before .before .before .before .before .before .before .before .before .before .before .before .before .before .before .before .before .before .before .args .arm) (c .before .before .before .before .before .before .before .before .before .before .before .before .before .before .before .before .before .before .before .before .before .before .before .before .before .before .before .before .before .before .before .good .0)))
+returns c = 
+    let a = c .before .before .before .before .before .before .before .before .before .before .before .before .before .before .before .before .before .before .before .before .before .before .before .before .args .arm in
+    same a (c .before .before .before .before .before .before .before .before .before .before .before .before .before .before .before .before .before .before .before .before .before .before .before .link-tests .result) (c .before .before .before .before .before .before .before .before .before .before .before .before .before .before .before .before .before .before .before .before .before .before .coupling-tests .result) (c .before .before .before .before .before .before .before .before .before .before .before .before .before .before .before .before .before .before .tags-unique .result) (c .before .before .before .before .before .before .before .before .before .before .before .before .before .before .before .before .parents-earlier .result) (c .before .before .before .before .before .before .before .before .before .before .before .before .before .root-fits .result) (c .before .before .before .before .before .before .before .rows-finite .result)
+    (c .before .before .before .before .before .before .before .before .before .before .before .before .before .before .before .before .before .before .before .before .before .before .before .link-tests .ensures) (c .before .before .before .before .before .before .before .before .before .before .before .before .before .before .before .before .before .before .before .before .before .before .coupling-tests .ensures) (c .before .before .before .before .before .before .before .before .before .before .before .before .before .before .before .before .before .before .tags-unique .ensures) (c .before .before .before .before .before .before .before .before .before .before .before .before .before .before .before .before .parents-earlier .ensures) (c .before .before .before .before .before .before .before .before .before .before .before .before .before .root-fits .ensures) (c .before .before .before .before .before .before .before .rows-finite .ensures)
+    (c .before .before .before .before .before .before .before .before .before .before .before .before .before .before .before .before .before .before .before .unless .ensures) (c .before .before .before .before .before .before .before .before .before .before .before .before .before .before .before .before .before .unless2 .ensures) (c .before .before .before .before .before .before .before .before .before .before .before .before .before .before .unless3 .ensures) (c .before .before .before .before .before .before .before .before .before .before .unless4 .ensures) (c .before .before .before .before .before .before .unless5 .ensures) (c .before .before .before .before .before .unless6 .ensures)
+    (c .before .before .before .before .lower .ensures) (c .before .before .before .lower2 .ensures) (c .before .before .lower3 .ensures) (c .before .lower4 .ensures) (c .lower5 .ensures)
 
 pub arm-refusal-spec : {M : Type 1} → statement M
 arm-refusal-spec =
     tie.close
     (tie.spec
-    live-links-requires
-    tags-of-requires
-    parents-of-requires
     link-tests-requires
     coupling-tests-requires
     unless-requires
-    sub-all-unique
-    part-all-unique-start
-    part-all-unique-end
-    all-unique-requires
+    tags-unique-requires
     unless-requires-2
-    sub-parents-fit
-    part-parents-fit-start
-    part-parents-fit-end
-    parents-fit-requires
+    parents-earlier-requires
     unless-requires-3
     root-fits-requires
     unless-requires-4
