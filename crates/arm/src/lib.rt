@@ -3,8 +3,8 @@
 ghost use mathlib.Core.Path.{_≡_};
 ghost use mathlib.Core.List.{map};
 ghost use Prim.Native.Nat.{min, _≤_};
-ghost use Rattle.limits.specs.Limits.{dofLimit};
-ghost use Rattle.arm.specs.Arm.{tagOf, parentOf, liveLinks, startAt, dofCountOf, maskAt, rowNumber};
+ghost use Rattle.limits.specs.Limits.{linkLimit, dofLimit};
+ghost use Rattle.arm.specs.Arm.{tagOf, parentOf, startAt, dofCountOf, maskAt, rowNumber};
 ghost use Rattle.arm.specs.HandedIn.{isNew, unique, tagsUnique, parentsEarlier, jointMasksFit, jointFinite, linkFinite, angleFits, linkTestsOf, couplingLinksFit, couplingAxesFit, couplingFinite, couplingTestsOf, rootFits, rowFinite, rowsFinite, armRefusal};
 use floats::all_finite;
 use floats::finite;
@@ -87,10 +87,10 @@ fn fewer(a: usize, b: usize) -> usize
 }
 
 // How many links count: never more than fit.
-pub fn live_links(arm: Arm) -> usize
-    ensures { λ r. ⌜ r ≡ liveLinks arm ⌝ }
+pub fn live_links(count: usize) -> usize
+    ensures { λ r. ⌜ r ≡ min count linkLimit ⌝ }
 {
-    fewer(arm.link_count, LINKS)
+    fewer(count, LINKS)
 }
 
 fn tags_of(arm: Arm) -> [u32; LINKS]
@@ -124,7 +124,7 @@ pub fn parents_of(arm: Arm) -> [u8; LINKS]
 pub fn mask_at(arm: Arm, link: usize) -> u8
     ensures { λ r. ⌜ r ≡ maskAt arm link ⌝ }
 {
-    if link < live_links(arm) {
+    if link < live_links(arm.link_count) {
         let l = arm.links[link];
         return l.joint.locked;
     }
@@ -135,7 +135,7 @@ pub fn mask_at(arm: Arm, link: usize) -> u8
 pub fn start_of(arm: Arm, link: usize) -> usize
     ensures { λ r. ⌜ r ≡ startAt arm link ⌝ }
 {
-    let n = fewer(link, live_links(arm));
+    let n = fewer(link, live_links(arm.link_count));
     let mut start: usize = 0;
     let mut i = 0;
     while i < n {
@@ -195,7 +195,7 @@ fn all_unique(tags: &[u32]) -> bool
 fn tags_unique(arm: Arm) -> bool
     ensures { λ r. ⌜ r ≡ tagsUnique arm ⌝ }
 {
-    let n = live_links(arm);
+    let n = live_links(arm.link_count);
     let tags = tags_of(arm);
     all_unique(&tags[0..n])
 }
@@ -243,7 +243,7 @@ struct LinkTests {
 fn link_tests(arm: Arm) -> LinkTests
     ensures { λ r. ⌜ r ≡ linkTestsOf arm ⌝ }
 {
-    let n = live_links(arm);
+    let n = live_links(arm.link_count);
     let mut masks = true;
     let mut floats = true;
     let mut angles = true;
@@ -265,7 +265,7 @@ fn link_tests(arm: Arm) -> LinkTests
 fn parents_earlier(arm: Arm) -> bool
     ensures { λ r. ⌜ r ≡ parentsEarlier arm ⌝ }
 {
-    let n = live_links(arm);
+    let n = live_links(arm.link_count);
     let parents = parents_of(arm);
     parents_fit(&parents[0..n])
 }
