@@ -10,9 +10,9 @@ use lib.Dec.{eqb}
 use lib.ListN.{length, take, getD, length-take, length-map, List·getD-eq-default}
 use lib.Seq.{getD-take, length-take-le}
 use Rattle.limits.specs.Limits.{linkLimit, dofLimit}
-use Rattle.masks.specs.Masks.{dofsOf}
+use Rattle.masks.specs.Masks.{one, isFree, dofsBelow, dofsOf}
 use Rattle.masks.specs.Starts.{totalOf, startOf}
-use Rattle.masks.proofs.Laws.{dofs-le}
+use Rattle.masks.proofs.Laws.{dofs-le, below-le}
 use Rattle.masks.proofs.Totals.{start-next, start-all, total-le}
 use Rattle.masks.proofs.Totals as totals
 use Rattle.arm.specs.declared.Link.{Link}
@@ -95,6 +95,21 @@ start-none a = refl
 pub start-le : (a : Arm) (i : ℕ) → startAt a i ≤ 3 * i
 unfolding startAt
 start-le a i = totals.start-le (masksOf a) i
+
+-- no start lies past the DoF count
+pub start-within : (a : Arm) (i : ℕ) → startAt a i ≤ dofCountOf a
+unfolding startAt dofCountOf
+start-within a i = within (masksOf a) i
+  where
+    within : (ms : List ℕ) (i : ℕ) → startOf ms i ≤ totalOf ms
+    unfolding startOf totalOf
+    within ms zero = omega arith
+    within [] (suc i) = omega arith
+    within (m ∷ ms) (suc i) = omega (arith, within ms i)
+
+-- a place in a row, as a sum that fits
+pub place-small : (a : Arm) (i axis m s b : ℕ) → s ≡ startAt a i → b ≡ dofsBelow m axis → s + b ≤ dofLimit + 3
+place-small a i axis m s b p q = omega (arith, start-within a i, dof-count-le a, below-le m axis, dofs-le m)
 
 pub dofs-small : (mask r : ℕ) → r ≡ dofsOf mask → r ≤ 3
 dofs-small mask r e = omega (arith, dofs-le mask)

@@ -5,6 +5,7 @@ ghost use mathlib.Core.List.{map};
 ghost use Prim.Native.Nat.{min, _≤_};
 ghost use Rattle.limits.specs.Limits.{linkLimit, dofLimit};
 ghost use Rattle.arm.specs.Arm.{tagOf, parentOf, startAt, dofCountOf, maskAt, rowNumber};
+ghost use Rattle.arm.specs.Edits.{dofAt};
 ghost use Rattle.arm.specs.HandedIn.{isNew, unique, tagsUnique, parentsEarlier, jointMasksFit, jointFinite, linkFinite, angleFits, linkTestsOf, couplingLinksFit, couplingAxesFit, couplingFinite, couplingTestsOf, rootFits, rowFinite, rowsFinite, armRefusal};
 use floats::all_finite;
 use floats::finite;
@@ -12,6 +13,7 @@ use limits::COUPLINGS;
 use limits::DOFS;
 use limits::LINKS;
 use masks::dofs;
+use masks::dofs_below;
 use masks::is_axis;
 use masks::is_mask;
 use multibody_joint::Joint;
@@ -150,6 +152,13 @@ pub fn dof_count(arm: Arm) -> usize
     ensures { λ r. ⌜ r ≡ dofCountOf arm ⌝ }
 {
     start_of(arm, LINKS)
+}
+
+// Where in a row the entry of a link's axis stands.
+pub fn dof_at(arm: Arm, link: usize, axis: u8) -> usize
+    ensures { λ r. ⌜ r ≡ dofAt arm link axis ⌝ }
+{
+    start_of(arm, link) + dofs_below(mask_at(arm, link), axis)
 }
 
 pub fn row_number(name: RowName) -> usize

@@ -1,0 +1,5 @@
+pub mod Refusals
+pub mod Rows
+pub mod Links
+pub mod Couplings
+pub mod Numbers
