@@ -6,7 +6,7 @@ use mathlib.Core.Path.{_≡_}
 use Rattle.arm.specs.declared.Arm.{Arm}
 use Rattle.arm.specs.declared.LinkTests.{LinkTests}
 use Rattle.arm.specs.declared.CouplingTests.{CouplingTests}
-use Rattle.arm.specs.HandedIn.{couplingTestsOf, countsFit, parentsEarlier, rootFits, rowsFinite, tagsUnique, unique}
+use Rattle.arm.specs.HandedIn.{couplingTestsOf, countsFit, parentsEarlier, rootFits, rowsFinite, tagsUnique, unique, armEntries}
 use Rattle.arm.specs.HandedIn.{linkTestsOf}
 use Rattle.arm.specs.HandedIn.{armRefusal}
 use borrow.Author.Needs.{needs}
@@ -29,7 +29,7 @@ module _ (a : Arm) (l : LinkTests) (c : CouplingTests) (unique earlier root rows
       → u₄ ≡ unlessOf (earlier && c .links) 4 → u₅ ≡ unlessOf ((l .masks && root) && c .axes) 5
       → u₇ ≡ unlessOf ((l .floats && c .floats) && rows) 7 → u₉ ≡ unlessOf (l .angles) 9
       → l₇ ≡ lowerOf u₇ u₉ → l₅ ≡ lowerOf u₅ l₇ → l₄ ≡ lowerOf u₄ l₅ → l₃ ≡ lowerOf u₃ l₄ → l₂ ≡ lowerOf u₂ l₃ → l₂ ≡ armRefusal a
-  unfolding armRefusal linkTestsOf couplingTestsOf
+  unfolding armRefusal armEntries linkTestsOf couplingTestsOf
   same p₂ p₃ p₄ p₅ p₇ p₉ q₇ q₅ q₄ q₃ q₂ = rw (q₂, q₃, q₄, q₅, q₇, p₂, p₃, p₄, p₅, p₇, p₉, el, ec, e₃, e₄, e₅, e₇)
 
 -- src/lib.rt:364:9

@@ -1,0 +1,31 @@
+use borrow.Author.Needs.{needs}
+use Rattle.arm_calls.proofs.axis_is_free.Statement.{statement}
+use Rattle.arm_calls.proofs.axis_is_free.Tie as tie
+use Rattle.arm_calls.proofs.axis_is_free.Reads as reads
+use Rattle.arm_calls.proofs.axis_is_free.Lts as lts
+use Rattle.masks.proofs.is_axis.Reads as is-axis-reads
+use Rattle.masks.proofs.is_free.Reads as is-free-reads
+
+-- src/lib.rt:40:8
+is-axis-requires : tie.Need-is-axis-requires
+is-axis-requires c κs = search needs
+
+-- src/lib.rt:41:30
+cast-is-free : tie.Need-cast-is-free
+cast-is-free c = ?
+
+-- src/lib.rt:41:9
+is-free-requires : tie.Need-is-free-requires
+is-free-requires c κs = search needs
+
+-- src/lib.rt:41:9
+returns : tie.Need-returns
+returns c = search needs
+
+-- src/lib.rt:37:1
+returns-2 : tie.Need-returns-2
+returns-2 c = ?
+
+pub axis-is-free-spec : {M : Type 1} → statement M
+axis-is-free-spec =
+    tie.close (tie.spec is-axis-requires cast-is-free is-free-requires returns returns-2)
