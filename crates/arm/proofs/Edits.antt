@@ -19,15 +19,15 @@ use Rattle.arm.proofs.Live.{masks-live, dof-count-le}
 
 -- ---- the answer
 
-pub edited-none : (k : ℕ) (old new x : Arm) → k ≡ 0 → x ≡ new → _≡_ {A = Edited} (record { refusal = 0; arm = x }) (edited k old new)
+pub edited-none : (n k : ℕ) (old new x : Arm) → n ≡ k → n ≡ 0 → x ≡ new → _≡_ {A = Edited} (record { refusal = 0; arm = x }) (edited k old new)
 unfolding edited
-edited-none zero old new x h e = rw e
-edited-none (suc k) old new x h e = absurd (omega arith)
+edited-none n zero old new x p h e = rw e
+edited-none n (suc k) old new x p h e = absurd (omega arith)
 
-pub edited-some : (k : ℕ) (old new : Arm) → (k ≡ 0 → ⊥) → _≡_ {A = Edited} (record { refusal = k; arm = old }) (edited k old new)
+pub edited-some : (n k : ℕ) (old new : Arm) → n ≡ k → (n ≡ 0 → ⊥) → _≡_ {A = Edited} (record { refusal = n; arm = old }) (edited k old new)
 unfolding edited
-edited-some zero old new h = absurd (h refl)
-edited-some (suc k) old new h = refl
+edited-some n zero old new p h = absurd (h p)
+edited-some n (suc k) old new p h = rw p
 
 -- ---- an element's change
 

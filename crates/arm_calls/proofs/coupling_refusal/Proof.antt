@@ -1,3 +1,7 @@
+use Rattle.refusal.specs.Refusal.{unlessOf}
+use Rattle.floats.specs.Floats.{isFinite}
+use Rattle.arm.proofs.Accepted.{own-then-arm}
+use mathlib.Core.Bool.{_&&_}
 use Rattle.arm_calls.specs.Refusals.{couplingRefusal}
 use borrow.Author.Needs.{needs}
 use Rattle.arm_calls.proofs.coupling_refusal.Statement.{statement}
@@ -72,8 +76,8 @@ lower-requires-4 c κs = search needs
 
 -- src/lib.rt:243:1
 returns : tie.Need-returns
-unfolding couplingRefusal armRefusal
-returns c = cc
+unfolding couplingRefusal
+returns c = cc (own-then-arm (unlessOf (isFinite (c .before .before .before .before .before .before .before .before .before .before .before .before .before .before .before .before .args .c .coefficient) && isFinite (c .before .before .before .before .before .before .before .before .before .before .before .before .before .before .before .before .args .c .offset)) 7) (c .before .before .before .before .before .before .before .before .before .before .before .before .before .before .before .before .args .arm))
 
 pub coupling-refusal-spec : {M : Type 1} → statement M
 coupling-refusal-spec =

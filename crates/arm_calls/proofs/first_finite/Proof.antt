@@ -1,3 +1,8 @@
+use Rattle.floats.specs.Floats.{allFinite}
+use lib.Seq.{take-all}
+use native.Mathlib.Nat.{sub-zero}
+use mathlib.Core.Path.{_∙_, ap, sym}
+use native.Mathlib.Omega.{arith}
 use borrow.Author.Needs.{needs}
 use Rattle.arm_calls.proofs.first_finite.Statement.{statement}
 use Rattle.arm_calls.proofs.first_finite.Tie as tie
@@ -23,7 +28,7 @@ all-finite-requires c κs = search needs
 
 -- src/lib.rt:184:9
 returns : tie.Need-returns
-returns c = ?
+returns c = simp sub-zero at (c .all-finite .ensures)
 
 -- src/lib.rt:186:5
 all-finite-requires-2 : tie.Need-all-finite-requires-2
@@ -31,7 +36,7 @@ all-finite-requires-2 c κs = search needs
 
 -- src/lib.rt:180:1
 returns-2 : tie.Need-returns-2
-returns-2 c = ?
+returns-2 c = c .all-finite2 .ensures ∙ ap allFinite (sym (take-all (c .before .before .before .args .n) (c .before .before .before .args .s .now) (omega arith)))
 
 pub first-finite-spec : {M : Type 1} → statement M
 first-finite-spec =

@@ -1,3 +1,7 @@
+use Rattle.arm.proofs.Live.{dof-count-le, start-within}
+use Rattle.arm_calls.proofs.Answers.{count-none, count-some}
+use native.Mathlib.Omega.{arith}
+use Rattle.arm_calls.specs.Numbers.{startAnswer}
 use borrow.Author.Needs.{needs}
 use Rattle.arm_calls.proofs.link_start.Statement.{statement}
 use Rattle.arm_calls.proofs.link_start.Tie as tie
@@ -12,7 +16,8 @@ start-refusal-requires c κs = search needs
 
 -- src/lib.rt:307:9
 returns : tie.Need-returns
-returns c = search needs
+unfolding startAnswer
+returns c = count-some _ _ _ (c .before .start-refusal .ensures) (c .if1 .taken)
 
 -- src/lib.rt:311:16
 start-of-requires : tie.Need-start-of-requires
@@ -20,11 +25,12 @@ start-of-requires c κs = search needs
 
 -- src/lib.rt:311:16
 cast-t7 : tie.Need-cast-t7
-cast-t7 c = search needs
+cast-t7 c = omega (arith, c .start-of .ensures, start-within (c .before .before .before .args .arm) (c .before .before .before .args .link), dof-count-le (c .before .before .before .args .arm))
 
 -- src/lib.rt:302:1
 returns-2 : tie.Need-returns-2
-returns-2 c = search needs
+unfolding startAnswer
+returns-2 c = count-none _ _ _ _ (c .before .before .start-refusal .ensures) (c .before .if1 .left) (c .start-of .ensures)
 
 pub link-start-spec : {M : Type 1} → statement M
 link-start-spec =

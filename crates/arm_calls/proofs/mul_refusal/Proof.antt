@@ -1,4 +1,8 @@
-use Rattle.arm_calls.specs.Refusals.{mulRefusal}
+use Rattle.refusal.specs.Refusal.{unlessOf}
+use Rattle.floats.specs.Floats.{allFinite}
+use Rattle.arm.proofs.Accepted.{own-then-arm}
+use lib.ListN.{take}
+use Rattle.arm_calls.specs.Refusals.{mulRefusal, linkDofs}
 use borrow.Author.Needs.{needs}
 use Rattle.arm_calls.proofs.mul_refusal.Statement.{statement}
 use Rattle.arm_calls.proofs.mul_refusal.Tie as tie
@@ -53,8 +57,8 @@ lower-requires-3 c κs = search needs
 
 -- src/lib.rt:189:1
 returns : tie.Need-returns
-unfolding mulRefusal armRefusal
-returns c = cc
+unfolding mulRefusal
+returns c = cc (own-then-arm (unlessOf (allFinite (take (linkDofs (c .before .before .before .before .before .before .before .before .before .before .before .before .args .arm) (c .before .before .before .before .before .before .before .before .before .before .before .before .args .link)) (c .before .before .before .before .before .before .before .before .before .before .before .before .args .accelerations .now))) 7) (c .before .before .before .before .before .before .before .before .before .before .before .before .args .arm))
 
 pub mul-refusal-spec : {M : Type 1} → statement M
 mul-refusal-spec =

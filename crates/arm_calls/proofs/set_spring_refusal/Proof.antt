@@ -1,4 +1,6 @@
-use Rattle.arm_calls.specs.Refusals.{setSpringRefusal}
+use Rattle.refusal.specs.Refusal.{unlessOf}
+use Rattle.arm.proofs.Accepted.{own-then-arm}
+use Rattle.arm_calls.specs.Refusals.{setSpringRefusal, springFinite}
 use borrow.Author.Needs.{needs}
 use Rattle.arm_calls.proofs.set_spring_refusal.Statement.{statement}
 use Rattle.arm_calls.proofs.set_spring_refusal.Tie as tie
@@ -48,8 +50,8 @@ lower-requires-3 c κs = search needs
 
 -- src/lib.rt:98:1
 returns : tie.Need-returns
-unfolding setSpringRefusal armRefusal
-returns c = cc
+unfolding setSpringRefusal
+returns c = cc (own-then-arm (unlessOf (springFinite (c .before .before .before .before .before .before .before .before .before .before .args .spring)) 7) (c .before .before .before .before .before .before .before .before .before .before .args .arm))
 
 pub set-spring-refusal-spec : {M : Type 1} → statement M
 set-spring-refusal-spec =

@@ -1,3 +1,6 @@
+use Rattle.refusal.specs.Refusal.{unlessOf}
+use Rattle.masks.specs.Masks.{isAxis}
+use Rattle.arm.proofs.Accepted.{own-then-arm}
 use Rattle.arm_calls.specs.Refusals.{springRefusal}
 use borrow.Author.Needs.{needs}
 use Rattle.arm_calls.proofs.spring_refusal.Statement.{statement}
@@ -35,8 +38,8 @@ lower-requires-2 c κs = search needs
 
 -- src/lib.rt:140:1
 returns : tie.Need-returns
-unfolding springRefusal armRefusal
-returns c = cc
+unfolding springRefusal
+returns c = cc (own-then-arm (unlessOf (isAxis (c .before .before .before .before .before .before .before .args .axis)) 5) (c .before .before .before .before .before .before .before .args .arm))
 
 pub spring-refusal-spec : {M : Type 1} → statement M
 spring-refusal-spec =

@@ -1,4 +1,6 @@
-use Rattle.arm_calls.specs.Refusals.{startRefusal}
+use Rattle.refusal.specs.Refusal.{unlessOf}
+use Rattle.arm.proofs.Accepted.{own-then-arm}
+use Rattle.arm_calls.specs.Refusals.{startRefusal, isLink}
 use borrow.Author.Needs.{needs}
 use Rattle.arm_calls.proofs.start_refusal.Statement.{statement}
 use Rattle.arm_calls.proofs.start_refusal.Tie as tie
@@ -22,8 +24,8 @@ lower-requires c κs = search needs
 
 -- src/lib.rt:292:1
 returns : tie.Need-returns
-unfolding startRefusal armRefusal
-returns c = cc
+unfolding startRefusal
+returns c = cc (own-then-arm (unlessOf (isLink (c .before .before .before .before .args .arm) (c .before .before .before .before .args .link)) 4) (c .before .before .before .before .args .arm))
 
 pub start-refusal-spec : {M : Type 1} → statement M
 start-refusal-spec =

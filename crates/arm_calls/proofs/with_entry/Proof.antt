@@ -1,3 +1,4 @@
+use mathlib.Core.Path.{refl}
 use Rattle.arm_calls.specs.Rows.{entrySet}
 use borrow.Author.Needs.{needs}
 use Rattle.arm_calls.proofs.with_entry.Statement.{statement}

@@ -1,3 +1,6 @@
+use Rattle.refusal.specs.Refusal.{unlessOf}
+use Rattle.floats.specs.Floats.{isFinite}
+use Rattle.arm.proofs.Accepted.{own-then-arm}
 use Rattle.arm_calls.specs.Refusals.{writeRefusal}
 use borrow.Author.Needs.{needs}
 use Rattle.arm_calls.proofs.write_refusal.Statement.{statement}
@@ -66,8 +69,8 @@ lower-requires-4 c κs = search needs
 
 -- src/lib.rt:46:1
 returns : tie.Need-returns
-unfolding writeRefusal armRefusal
-returns c = cc
+unfolding writeRefusal
+returns c = cc (own-then-arm (unlessOf (isFinite (c .before .before .before .before .before .before .before .before .before .before .before .before .before .before .args .value)) 7) (c .before .before .before .before .before .before .before .before .before .before .before .before .before .before .args .arm))
 
 pub write-refusal-spec : {M : Type 1} → statement M
 write-refusal-spec =
