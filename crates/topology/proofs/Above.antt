@@ -1,7 +1,7 @@
 -- At or above by the parents, against the branch: a link is at or above another exactly if it stands on the other's branch.
 use Prim.Native.Nat.{ℕ, zero, suc, _+_, _≤_, _<_}
 use mathlib.Core.Path.{_≡_, refl, sym, ap, subst, _∙_}
-use mathlib.Core.Bool.{Bool, true, false, _||_}
+use mathlib.Core.Bool.{Bool, true, false, _||_, or-true}
 use mathlib.Core.List.{List, [], _∷_, _++_}
 use native.Mathlib.Omega.{arith}
 use native.Mathlib.Decide.{decLt}
@@ -12,7 +12,6 @@ use lib.Dec.{eqb}
 use Rattle.topology.specs.Above.{AtOrAbove, itself, above}
 use Rattle.topology.specs.Parents.{parentOf, parentsFit, branch, atOrBelow}
 use Rattle.topology.specs.Words.{FromRoot}
-use Rattle.topology.proofs.Small.{or-true}
 use Rattle.topology.proofs.Fitting.{earlier}
 use Rattle.topology.proofs.Branch.{branch-alone, branch-more, mark-alone, mark-more}
 

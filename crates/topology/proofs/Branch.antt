@@ -1,7 +1,7 @@
 -- A link's branch is its parent's with the link behind it: j steps up from link j are enough, as each goes to an earlier link.
 use Prim.Native.Nat.{ℕ, zero, suc, min, _+_, _≤_, _<_}
-use mathlib.Core.Path.{_≡_, refl, sym, ap, _∙_}
-use mathlib.Core.Bool.{Bool, true, false, cond, _||_}
+use mathlib.Core.Path.{_≡_, refl, sym}
+use mathlib.Core.Bool.{Bool, true, false, cond, _||_, or-false, or-comm}
 use mathlib.Core.List.{List, [], _∷_, _++_}
 use native.Mathlib.Omega.{arith}
 use borrow.Author.Tests.{ltb-true, lt-ltb, le-ltb}
@@ -10,7 +10,6 @@ use Rattle.limits.specs.Limits.{linkLimit}
 use lib.Dec.{eqb, ltb}
 use Rattle.topology.specs.Tables.{standsIn}
 use Rattle.topology.specs.Parents.{parentOf, wayTo, branch, atOrBelow, marks}
-use Rattle.topology.proofs.Small.{or-comm, or-false}
 use Rattle.topology.proofs.Tables.{Filled, filled-all, stands-snoc}
 
 module _ (ps : List ℕ) where

@@ -1,11 +1,11 @@
--- Rule 4 as numbers: a later link's parent is earlier, a first link's is 0. Each test is one of the list's.
+-- Rule 4 as numbers: a later link's parent is earlier. Each test is one of the list's.
 use Prim.Native.Nat.{ℕ, zero, suc, _+_, _<_}
 use mathlib.Core.Path.{_≡_, refl}
 use mathlib.Core.Bool.{Bool, true, _&&_}
 use mathlib.Core.List.{List}
 use native.Mathlib.Omega.{arith}
 use native.Mathlib.Numerals.{add-one}
-use borrow.Author.Tests.{ltb-true, eqb-true}
+use borrow.Author.Tests.{ltb-true}
 use lib.ListN.{length}
 use lib.Dec.{eqb, ltb}
 use Rattle.topology.specs.Tables.{allBelow}
@@ -47,7 +47,3 @@ module _ (ps : List ℕ) (fit : parentsFit ps ≡ true) where
   unfolding parentFits
   earlier zero l h = absurd (omega arith)
   earlier (suc j) l h = ltb-true (parentOf ps (suc j)) (suc j) (at (suc j) h)
-
-  pub root : 0 < length ps → parentOf ps 0 ≡ 0
-  unfolding parentFits
-  root h = eqb-true (parentOf ps 0) 0 (at 0 h)

@@ -1,14 +1,13 @@
 -- The split map written link by link: two bytes for each link passed, and for each part how many links it has so far, which is the next one's number.
 use Prim.Native.Nat.{ℕ, zero, suc, _+_, _*_, _≤_, _<_}
-use mathlib.Core.Path.{_≡_, refl, sym, ap, ap₂, subst, _∙_}
-use mathlib.Core.Bool.{Bool, true, false, cond, _&&_}
+use mathlib.Core.Path.{_≡_, refl, sym, ap, subst, _∙_}
+use mathlib.Core.Bool.{Bool, true, false, cond}
 use mathlib.Core.List.{List, [], _∷_, _++_, append-assoc}
 use native.Mathlib.Omega.{arith}
 use native.Mathlib.Numerals.{add-one}
-use native.Mathlib.Decide.{decLt}
 use borrow.Author.Tests.{lt-ltb, le-ltb, eqb-true, eqb-false, eq-eqb, ne-eqb}
-use lib.ListN.{length, take, drop, getD, set, replicate, length-append, length-drop, length-set, length-replicate, getD-replicate}
-use lib.Seq.{drop-cons, set-at, append-snoc, getD-take, getD-set-same, getD-set-other}
+use lib.ListN.{length, take, drop, getD, set, replicate, length-append, length-drop, length-set, getD-replicate}
+use lib.Seq.{drop-cons, getD-take, getD-set-same, getD-set-other}
 use lib.Dec.{eqb, ltb}
 use Rattle.limits.specs.Limits.{linkLimit}
 use Rattle.topology.specs.declared.Split.{Split}

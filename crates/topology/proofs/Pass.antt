@@ -1,18 +1,17 @@
 -- Parts in one rising pass: a head's part is its rank, any other survivor's is its parent's, which survives too. By the link's number.
 use Prim.Native.Nat.{ℕ, zero, suc, _+_, _≤_, _<_}
-use mathlib.Core.Path.{_≡_, refl, sym, ap, _∙_}
-use mathlib.Core.Bool.{Bool, true, false, cond, not, _||_, _&&_}
-use mathlib.Core.List.{List, [], _∷_, _++_}
+use mathlib.Core.Path.{_≡_, refl, sym, _∙_}
+use mathlib.Core.Bool.{Bool, true, false, not, _||_}
+use mathlib.Core.List.{List}
 use native.Mathlib.Omega.{arith}
 use native.Mathlib.Numerals.{add-one}
 use native.Mathlib.Decide.{decLt}
-use borrow.Author.Tests.{eqb-false, not-true}
 use lib.ListN.{length, take, getD, set}
 use lib.Dec.{eqb}
 use Rattle.topology.specs.declared.Split.{Split}
 use Rattle.topology.specs.declared.Split.the-variants.{Delete, Cut}
 use Rattle.topology.specs.Tables.{each, countBelow, lastThat}
-use Rattle.topology.specs.Parents.{parentOf, parentsFit, branch}
+use Rattle.topology.specs.Parents.{parentOf, parentsFit}
 use Rattle.topology.specs.Split.{survives, headOf, isHead, rank, partCount, nearestHead, partOf, gone, partByte}
 use Rattle.topology.specs.Words.{Survivor}
 use Rattle.topology.proofs.Small.{differ, or-right, and-left}

@@ -1,6 +1,6 @@
 -- The two calls' answers: a refusal is the lowest of four tests, none where all of them hold.
 use Prim.Native.Nat.{ℕ, zero, suc, _*_, _/_, _≤_, _<_}
-use mathlib.Core.Path.{_≡_, refl, sym, ap, _∙_}
+use mathlib.Core.Path.{_≡_, refl, sym, _∙_}
 use mathlib.Core.Bool.{Bool, true, false}
 use mathlib.Core.Logic.{inl, inr}
 use mathlib.Core.List.{List, [], _∷_, _++_}
@@ -15,7 +15,7 @@ use Rattle.refusal.proofs.Laws.{is-lowest}
 use Rattle.topology.specs.declared.Split.{Split}
 use Rattle.topology.specs.Parents.{parentsFit, branch}
 use Rattle.topology.specs.Split.{linkOf, partCount, splitMap}
-use Rattle.topology.specs.Answers.{Outcome, out, given, refusalOf, branchAnswer, splitAnswer}
+use Rattle.topology.specs.Answers.{out, given, refusalOf, branchAnswer, splitAnswer}
 use Rattle.topology.proofs.Mapped.{map-length}
 
 passes : (ok : Bool) (k : ℕ) → unlessOf ok (suc k) ≡ 0 → ok ≡ true

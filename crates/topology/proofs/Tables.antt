@@ -1,7 +1,7 @@
 -- Laws of tables, tests and counts over the first n numbers, and of lists that grow at their end. By the count, or the list.
 use Prim.Native.Nat.{ℕ, zero, suc, _+_, _-_, _≤_, _<_}
 use mathlib.Core.Path.{_≡_, refl, sym, ap, subst, _∙_}
-use mathlib.Core.Bool.{Bool, true, false, cond, _||_, _&&_}
+use mathlib.Core.Bool.{Bool, true, false, cond, _||_, or-false, or-assoc}
 use mathlib.Core.List.{List, [], _∷_, _++_}
 use native.Mathlib.Omega.{arith}
 use native.Mathlib.Numerals.{add-one}
@@ -10,7 +10,7 @@ use lib.ListN.{length, take, drop, getD, set, replicate, length-append, length-s
 use lib.Seq.{take-suc-set, getD-at, drop-set-lt, drop-drop, getD-take, getD-drop, ext-getD}
 use lib.Dec.{eqb}
 use Rattle.topology.specs.Tables.{each, allBelow, oneMore, countBelow, standsIn, lastThat}
-use Rattle.topology.proofs.Small.{and-left, and-right, or-false, or-assoc}
+use Rattle.topology.proofs.Small.{and-left, and-right}
 
 -- ---- tables
 
@@ -132,7 +132,7 @@ count-same (suc n) f g h = rw (h n (omega arith), count-same n f g (λ j l. h j 
 pub stands-snoc : (x : ℕ) (ys : List ℕ) (y : ℕ) → standsIn x (ys ++ (y ∷ [])) ≡ (standsIn x ys || eqb y x)
 unfolding standsIn
 stands-snoc x [] y = or-false (eqb y x)
-stands-snoc x (z ∷ ys) y = rw (stands-snoc x ys y) (or-assoc (eqb z x) _ _)
+stands-snoc x (z ∷ ys) y = rw (stands-snoc x ys y) (sym (or-assoc (eqb z x) _ _))
 
 pub last-snoc : (test : ℕ → Bool) (d : ℕ) (xs : List ℕ) (x : ℕ) → lastThat test d (xs ++ (x ∷ [])) ≡ cond (test x) x (lastThat test d xs)
 unfolding lastThat

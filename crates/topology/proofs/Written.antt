@@ -1,9 +1,8 @@
 -- A branch written from its link up to the root: behind place `at` it stands already, before it lies the branch of the link that is next.
-use Prim.Native.Nat.{ℕ, zero, suc, _+_, _≤_, _<_}
+use Prim.Native.Nat.{ℕ, suc, _+_, _≤_, _<_}
 use mathlib.Core.Path.{_≡_, refl, sym, ap, ap₂, _∙_}
 use mathlib.Core.List.{List, [], _∷_, _++_}
 use native.Mathlib.Omega.{arith}
-use native.Mathlib.Numerals.{add-one}
 use native.Mathlib.Decide.{decLt}
 use lib.ListN.{length, take, drop, getD, set, length-append, length-set}
 use lib.Seq.{take-append-seam, take-at, getD-append-seam, getD-at, take-suc, take-length, drop-length, drop-cons, getD-set-same, drop-set-lt, length-take-le}

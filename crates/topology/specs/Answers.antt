@@ -11,6 +11,7 @@ use Rattle.topology.specs.declared.Split.{Split}
 use Rattle.topology.specs.Parents.{parentsFit, branch}
 use Rattle.topology.specs.Split.{linkOf, partCount, splitMap}
 
+-- an answer, with what the lent memory then holds
 pub record Outcome : Type 0 where
   pub answer : Counted
   pub memory : List ℕ

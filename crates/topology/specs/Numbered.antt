@@ -1,6 +1,6 @@
 -- Links numbered within their parts, over a list of parts: what the code that writes the split map is shown to do.
 use Prim.Native.Nat.{ℕ, zero, suc}
-use mathlib.Core.Bool.{Bool, cond}
+use mathlib.Core.Bool.{cond}
 use mathlib.Core.List.{List, [], _∷_, _++_}
 use lib.ListN.{getD}
 use lib.Dec.{eqb, ltb}
@@ -8,6 +8,7 @@ use Rattle.limits.specs.Limits.{linkLimit}
 use Rattle.topology.specs.Tables.{countBelow}
 use Rattle.topology.specs.Split.{gone}
 
+-- the part at place j
 abbrev pub partAt : List ℕ → ℕ → ℕ
 partAt qs j = getD qs j 0
 

@@ -1,12 +1,13 @@
 -- Parents as a list, link j's at place j.
 use Prim.Native.Nat.{ℕ, zero, suc}
-use mathlib.Core.Bool.{Bool, true, false, cond}
+use mathlib.Core.Bool.{Bool, cond}
 use mathlib.Core.List.{List, [], _∷_, _++_}
 use lib.ListN.{length, getD}
 use lib.Dec.{eqb, ltb}
 use Rattle.limits.specs.Limits.{linkLimit}
 use Rattle.topology.specs.Tables.{each, allBelow, standsIn}
 
+-- the parent of link j
 abbrev pub parentOf : List ℕ → ℕ → ℕ
 parentOf ps j = getD ps j 0
 

@@ -1,6 +1,6 @@
 -- The split of an arm at a link: heads, parts and new numbers.
-use Prim.Native.Nat.{ℕ, zero, suc, _*_}
-use mathlib.Core.Bool.{Bool, true, false, cond, not, _&&_, _||_}
+use Prim.Native.Nat.{ℕ, zero, suc}
+use mathlib.Core.Bool.{Bool, true, cond, not, _&&_, _||_}
 use mathlib.Core.List.{List, [], _∷_, _++_}
 use lib.ListN.{length}
 use lib.Dec.{eqb}
@@ -14,6 +14,7 @@ abbrev pub linkOf : Split → ℕ
 linkOf (Delete k) = k
 linkOf (Cut k) = k
 
+-- does link j survive?
 abbrev pub survives : Split → ℕ → Bool
 survives (Delete k) j = not (eqb j k)
 survives (Cut k) j = true
@@ -24,6 +25,7 @@ headOf (Delete k) j p = not (eqb j k) && (eqb j 0 || eqb p k)
 headOf (Cut k) j p = eqb j 0 || eqb j k
 
 module _ (ps : List ℕ) (s : Split) where
+  -- is link j a head?
   unfoldable pub isHead : ℕ → Bool
   isHead j = headOf s j (parentOf ps j)
 
@@ -56,6 +58,7 @@ abbrev pub gone : ℕ
 gone = 255
 
 module _ (ps : List ℕ) (s : Split) where
+  -- part and number of a link as the map has them
   unfoldable pub partByte : ℕ → ℕ
   partByte j = cond (survives s j) (partOf ps s j) gone
 

@@ -14,6 +14,7 @@ unfoldable pub allBelow : ℕ → (ℕ → Bool) → Bool
 allBelow zero test = true
 allBelow (suc n) test = allBelow n test && test n
 
+-- one more, if so
 abbrev pub oneMore : Bool → ℕ → ℕ
 oneMore true n = suc n
 oneMore false n = n

@@ -4,9 +4,8 @@ use Rattle.topology.proofs.Branch.{mark-alone, mark-more, marks-full}
 use mathlib.Core.Bool.{false}
 use Rattle.limits.specs.Limits.{linkLimit}
 use mathlib.Core.Logic.{⊎-elim}
-use Rattle.topology.specs.Tables.{each}
 use Rattle.topology.specs.Parents.{atOrBelow, marks, parentOf}
-use lib.ListN.{drop, length, take, replicate}
+use lib.ListN.{length, replicate}
 use Prim.Native.Nat.{min, _-_, _≤_}
 use mathlib.Core.Path.{_≡_, sym}
 use native.Mathlib.Omega.{arith}
