@@ -8,14 +8,13 @@ use lib.ListN.{length, getD, set}
 use Rattle.limits.specs.Limits.{linkLimit, dofLimit}
 use Rattle.masks.specs.Masks.{isFree, dofsBelow, dofsOf}
 use Rattle.masks.proofs.Laws.{below-free}
-use Rattle.masks.proofs.Totals.{start-in}
 use Rattle.arm.specs.declared.Arm.{Arm}
 use Rattle.arm.specs.declared.Edited.{Edited}
 use Rattle.arm.specs.declared.RowName.{RowName}
 use Rattle.arm.specs.declared.RowName.the-variants.{Velocities, Damping, Armature, Frictions, Accelerations}
-use Rattle.arm.specs.Arm.{liveLinks, masksOf, maskAt, startAt, dofCountOf, rowNumber}
+use Rattle.arm.specs.Arm.{liveLinks, maskAt, startAt, dofCountOf, rowNumber}
 use Rattle.arm.specs.Edits.{edited, modify, dofAt}
-use Rattle.arm.proofs.Live.{masks-live, dof-count-le}
+use Rattle.arm.proofs.Live.{part-within, dof-count-le}
 
 -- ---- the answer
 
@@ -50,9 +49,8 @@ row-there Accelerations = omega arith
 -- the entry of a free axis lies within the DoF count
 pub dof-within : (a : Arm) (link axis : ℕ) → length (a .links) ≡ linkLimit → link < liveLinks a → isFree (maskAt a link) axis ≡ true
     → dofAt a link axis < dofCountOf a
-unfolding dofAt startAt dofCountOf maskAt
-dof-within a link axis w h free =
-    omega (arith, start-in (masksOf a) link 7 (omega (arith, masks-live a w)), below-free (getD (masksOf a) link 7) axis free)
+unfolding dofAt
+dof-within a link axis w h free = omega (arith, part-within a w link h, below-free (maskAt a link) axis free)
 
 pub dof-in-row : (a : Arm) (link axis : ℕ) → length (a .links) ≡ linkLimit → link < liveLinks a → isFree (maskAt a link) axis ≡ true
     → dofAt a link axis < dofLimit

@@ -13,7 +13,7 @@ use Rattle.limits.specs.Limits.{linkLimit, dofLimit}
 use Rattle.masks.specs.Masks.{one, isFree, dofsBelow, dofsOf}
 use Rattle.masks.specs.Starts.{totalOf, startOf}
 use Rattle.masks.proofs.Laws.{dofs-le, below-le}
-use Rattle.masks.proofs.Totals.{start-next, start-all, total-le}
+use Rattle.masks.proofs.Totals.{start-next, start-all, start-in, total-le}
 use Rattle.masks.proofs.Totals as totals
 use Rattle.arm.specs.declared.Link.{Link}
 use Rattle.arm.specs.declared.Arm.{Arm}
@@ -41,6 +41,10 @@ module _ (a : Arm) (whole : length (a .links) ≡ linkLimit) where
   pub masks-live : length (masksOf a) ≡ liveLinks a
   unfolding masksOf
   masks-live = length-map (linksOf a) lockedOf ∙ links-live
+
+  pub parents-live : length (parentsOf a) ≡ liveLinks a
+  unfolding parentsOf
+  parents-live = length-map (linksOf a) parentOf ∙ links-live
 
   -- the mask of a link that counts, and of one that does not
   pub mask-there : (i : ℕ) (d : Link) → i < liveLinks a → getD (a .links) i d .joint .locked ≡ maskAt a i
@@ -78,6 +82,11 @@ module _ (a : Arm) (whole : length (a .links) ≡ linkLimit) where
   pub start-whole : (i : ℕ) → liveLinks a ≤ i → startAt a i ≡ dofCountOf a
   unfolding startAt dofCountOf
   start-whole i h = start-all (masksOf a) i (omega (arith, masks-live))
+
+  -- a link's entries lie within the DoF count
+  pub part-within : (i : ℕ) → i < liveLinks a → startAt a i + dofsOf (maskAt a i) ≤ dofCountOf a
+  unfolding startAt maskAt dofCountOf
+  part-within i h = start-in (masksOf a) i 7 (omega (arith, masks-live))
 
   -- what the fronts of the arrays of all tags and parents are
   pub tags-front : take (liveLinks a) (map tagOf (a .links)) ≡ tagsOf a

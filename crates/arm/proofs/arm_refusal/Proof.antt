@@ -1,4 +1,3 @@
-use Rattle.topology.proofs.Fitting.{earlier, root}
 use Rattle.refusal.specs.Refusal.{unlessOf, lowerOf}
 use Prim.Native.Nat.{ℕ}
 use mathlib.Core.Bool.{Bool, _&&_}
