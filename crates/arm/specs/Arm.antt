@@ -65,9 +65,12 @@ rowNumber Armature = 2
 rowNumber Frictions = 3
 rowNumber Accelerations = 4
 
+abbrev pub entriesOf : Row → List Float
+entriesOf row = row .entries
+
 -- a row's first n entries
 abbrev pub entriesTo : ℕ → Row → List Float
-entriesTo n row = take n (row .entries)
+entriesTo n row = take n (entriesOf row)
 
 -- the rows, up to the DoF count
 unfoldable pub rowsOf : Arm → List (List Float)
