@@ -15,14 +15,17 @@ use Rattle.arm.specs.Arm.{linksOf, lockedOf, masksOf, maskAt, startAt}
 use Rattle.arm.specs.Edits.{edited, dofAt}
 use Rattle.arm.specs.Words.{FreeAxis}
 
--- ---- the lowest refusal: `is-lowest` of crate refusal, for any list of tests
-
--- ---- a refusal returns the arm as it came
+-- ---- a refusal returns the arm as it came, an accepted edit the new one
 
 pub refused-still : (k : ℕ) (old new : Arm) → (edited k old new .refusal ≡ 0 → ⊥) → edited k old new .arm ≡ old
 unfolding edited
 refused-still zero old new h = absurd (h refl)
 refused-still (suc k) old new h = refl
+
+pub accepted-made : (k : ℕ) (old new : Arm) → k ≡ 0 → edited k old new .arm ≡ new
+unfolding edited
+accepted-made zero old new e = refl
+accepted-made (suc k) old new e = absurd (omega arith)
 
 -- ---- starts
 

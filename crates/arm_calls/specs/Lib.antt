@@ -3,3 +3,4 @@ pub mod Rows
 pub mod Links
 pub mod Couplings
 pub mod Numbers
+pub mod Words
