@@ -23,9 +23,11 @@ neededIn ps link = cond (ltb link (length ps) && parentsFit ps) (length (branch 
 unfoldable pub branchNeeded : Arm → ℕ → ℕ
 branchNeeded a link = neededIn (parentsOf a) link
 
+abbrev pub branchEntries : Arm → ℕ → ℕ → List ℕ
+branchEntries a link room = unlessOf (leb (branchNeeded a link) room) 1 ∷ unlessOf (ltb link (a .«link_count»)) 4 ∷ armEntries a
+
 unfoldable pub branchRefusal : Arm → ℕ → ℕ → ℕ
-branchRefusal a link room =
-    lowest (unlessOf (leb (branchNeeded a link) room) 1 ∷ unlessOf (ltb link (a .«link_count»)) 4 ∷ armEntries a)
+branchRefusal a link room = lowest (branchEntries a link room)
 
 -- the count, and the branch at the front of the lent memory; refused, no count, and the memory is as it was
 unfoldable pub armBranch : Arm → ℕ → List ℕ → Outcome

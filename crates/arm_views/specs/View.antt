@@ -30,13 +30,15 @@ rowOf Accelerations velocities accelerations = accelerations
 unfoldable pub ownPart : Arm → ℕ → List Float → List Float
 ownPart a link row = take (dofsOf (maskAt a link)) (drop (startAt a link) row)
 
--- both rows are at least as long as the DoF count
-unfoldable pub viewRefusal : Arm → ℕ → ℕ → ℕ → ℕ
-viewRefusal a link velocities accelerations =
-    lowest
-    (unlessOf (leb (dofCountOf a) velocities && leb (dofCountOf a) accelerations) 1
+-- both rows are at least as long as the DoF count; their lengths are given
+abbrev pub viewEntries : Arm → ℕ → ℕ → ℕ → List ℕ
+viewEntries a link velocities accelerations =
+    unlessOf (leb (dofCountOf a) velocities && leb (dofCountOf a) accelerations) 1
     ∷ unlessOf (ltb link (a .«link_count»)) 4
-    ∷ armEntries a)
+    ∷ armEntries a
+
+unfoldable pub viewRefusal : Arm → ℕ → ℕ → ℕ → ℕ
+viewRefusal a link velocities accelerations = lowest (viewEntries a link velocities accelerations)
 
 -- refused: the empty part
 unfoldable pub viewBy : ℕ → List Float → Seen
