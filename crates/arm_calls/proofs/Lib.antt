@@ -1,0 +1,4 @@
+pub mod Accepted
+pub mod Answers
+pub mod Agreeing
+pub mod Theorems

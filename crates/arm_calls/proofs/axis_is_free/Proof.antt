@@ -1,0 +1,36 @@
+use Rattle.masks.specs.Masks.{isFree}
+use borrow.Author.Tests.{leb-true}
+use mathlib.Core.Path.{_∙_, sym}
+use native.Mathlib.Omega.{arith}
+use borrow.Author.Needs.{needs}
+use Rattle.arm_calls.proofs.axis_is_free.Statement.{statement}
+use Rattle.arm_calls.proofs.axis_is_free.Tie as tie
+use Rattle.arm_calls.proofs.axis_is_free.Reads as reads
+use Rattle.arm_calls.proofs.axis_is_free.Lts as lts
+use Rattle.masks.proofs.is_axis.Reads as is-axis-reads
+use Rattle.masks.proofs.is_free.Reads as is-free-reads
+
+-- src/lib.rt:40:8
+is-axis-requires : tie.Need-is-axis-requires
+is-axis-requires c κs = search needs
+
+-- src/lib.rt:41:30
+cast-is-free : tie.Need-cast-is-free
+cast-is-free c = omega (arith, leb-true (c .before .before .args .axis) 2 (sym (c .before .is-axis .ensures) ∙ c .if1 .taken))
+
+-- src/lib.rt:41:9
+is-free-requires : tie.Need-is-free-requires
+is-free-requires c κs = search needs
+
+-- src/lib.rt:41:9
+returns : tie.Need-returns
+returns c = search needs
+
+-- src/lib.rt:37:1
+returns-2 : tie.Need-returns-2
+unfolding isFree
+returns-2 c = rw (sym (c .before .is-axis .ensures) ∙ c .if1 .left)
+
+pub axis-is-free-spec : {M : Type 1} → statement M
+axis-is-free-spec =
+    tie.close (tie.spec is-axis-requires cast-is-free is-free-requires returns returns-2)

@@ -1,0 +1,6 @@
+pub mod Refusals
+pub mod Rows
+pub mod Links
+pub mod Couplings
+pub mod Numbers
+pub mod Words

@@ -1,0 +1,3 @@
+pub mod Branches
+pub mod Views
+pub mod Theorems

@@ -1,0 +1,79 @@
+-- Theorems about views and branches: each refusal is the lowest of its list, a view is exactly the link's entries, and arms that agree up to
+-- their counts get the same answers. Assumes nothing.
+use Prim.Native.Nat.{ℕ, zero, suc, min, _+_, _≤_, _<_}
+use mathlib.Core.Path.{_≡_, refl, sym, ap, _∙_}
+use mathlib.Core.Bool.{true}
+use mathlib.Core.List.{List}
+use native.Mathlib.Omega.{arith}
+use lib.ListN.{length, take, drop, getD, length-take, length-drop}
+use lib.Seq.{getD-take, getD-drop}
+use lib.Ieee.{Float, nan}
+use Rattle.refusal.specs.Refusal.{Lowest}
+use Rattle.refusal.proofs.Laws.{is-lowest}
+use Rattle.masks.specs.Masks.{isFree, dofsBelow, dofsOf}
+use Rattle.masks.proofs.Laws.{below-free}
+use Rattle.arm.specs.declared.Arm.{Arm}
+use Rattle.arm.specs.Arm.{parentsOf, maskAt, startAt}
+use Rattle.arm.specs.Edits.{dofAt}
+use Rattle.arm.specs.Agree.{Agree, Sized}
+use Rattle.arm.proofs.Agree.{same-parents, same-mask-at, same-start, same-dofs, same-entries}
+use Rattle.arm_views.specs.declared.Role.{Role}
+use Rattle.arm_views.specs.declared.Role.the-variants.{Velocities, Accelerations}
+use Rattle.arm_views.specs.Branch.{branchNeeded, branchEntries, branchRefusal, armBranch}
+use Rattle.arm_views.specs.View.{rowOf, ownPart, viewEntries, viewRefusal, viewBy, viewAnswer}
+use Rattle.arm_views.specs.Words.{OwnEntries}
+use Rattle.arm_views.proofs.Views.{Within, view-within}
+
+-- ---- each refusal is the lowest of its list
+
+pub branch-lowest : (a : Arm) (link room : ℕ) → Lowest (branchEntries a link room) (branchRefusal a link room)
+unfolding branchRefusal
+branch-lowest a link room = is-lowest (branchEntries a link room)
+
+pub view-lowest : (a : Arm) (link v w : ℕ) → Lowest (viewEntries a link v w) (viewRefusal a link v w)
+unfolding viewRefusal
+view-lowest a link v w = is-lowest (viewEntries a link v w)
+
+-- ---- an accepted view
+
+own-entries : (a : Arm) (link : ℕ) (row : List Float) → startAt a link + dofsOf (maskAt a link) ≤ length row → OwnEntries a link row (ownPart a link row)
+unfolding ownPart dofAt
+own-entries a link row h = record {
+  count = omega (arith, length-take (dofsOf (maskAt a link)) (drop (startAt a link) row), length-drop (startAt a link) row);
+  each = entry;
+  of-axis = λ axis f. entry (dofsBelow (maskAt a link) axis) (below-free (maskAt a link) axis f);
+}
+  where
+    entry : (k : ℕ) → k < dofsOf (maskAt a link)
+        → getD (take (dofsOf (maskAt a link)) (drop (startAt a link) row)) k nan ≡ getD row (startAt a link + k) nan
+    entry k l = getD-take (dofsOf (maskAt a link)) (drop (startAt a link) row) k nan l ∙ getD-drop (startAt a link) row k nan
+
+shown : (k : ℕ) (part : List Float) → k ≡ 0 → viewBy k part .part ≡ part
+unfolding viewBy
+shown zero part e = refl
+shown (suc k) part e = absurd (omega arith)
+
+in-asked : (a : Arm) (role : Role) (link : ℕ) (v w : List Float) → Within a link (length v) (length w)
+    → startAt a link + dofsOf (maskAt a link) ≤ length (rowOf role v w)
+in-asked a Velocities link v w t = t .first
+in-asked a Accelerations link v w t = t .second
+
+-- the view is exactly the link's entries of the row that is asked for
+pub view-own : (a : Arm) (role : Role) (link : ℕ) (v w : List Float) → Sized a → viewRefusal a link (length v) (length w) ≡ 0
+    → OwnEntries a link (rowOf role v w) (viewAnswer a role link v w .part)
+unfolding viewAnswer
+view-own a role link v w s z =
+    let t = view-within a link (length v) (length w) (s .links) z in
+    rw (shown (viewRefusal a link (length v) (length w)) (ownPart a link (rowOf role v w)) z)
+    (own-entries a link (rowOf role v w) (in-asked a role link v w t))
+
+-- ---- arms that agree
+
+module _ (a b : Arm) (g : Agree a b) where
+  pub branch-same : (link : ℕ) (m : List ℕ) → armBranch a link m ≡ armBranch b link m
+  unfolding armBranch branchRefusal branchNeeded
+  branch-same link m = cc (same-entries a b g, same-parents a b g)
+
+  pub view-same : (role : Role) (link : ℕ) (v w : List Float) → viewAnswer a role link v w ≡ viewAnswer b role link v w
+  unfolding viewAnswer viewRefusal ownPart
+  view-same role link v w = cc (same-entries a b g, same-mask-at a b g link, same-start a b g link, same-dofs a b g)

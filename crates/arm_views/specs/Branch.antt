@@ -1,0 +1,36 @@
+-- `kinematic_branch` of an arm: from the root to a link, into lent memory.
+use Prim.Native.Nat.{ℕ}
+use mathlib.Core.Bool.{cond, _&&_}
+use mathlib.Core.List.{List, [], _∷_}
+use lib.Dec.{leb, ltb}
+use lib.ListN.{length}
+use Rattle.refusal.specs.Refusal.{unlessOf, lowest}
+use Rattle.topology.specs.Parents.{parentsFit, branch}
+use Rattle.topology.specs.Answers.{Outcome, given}
+use Rattle.topology.specs.declared.Counted.{Counted}
+use Rattle.arm.specs.declared.Arm.{Arm}
+use Rattle.arm.specs.Arm.{parentsOf}
+use Rattle.arm.specs.HandedIn.{armEntries}
+
+-- the answer of a call and what the memory lent to it then holds
+abbrev pub out : Counted → List ℕ → Outcome
+out r m = record { answer = r; memory = m }
+
+-- how many places a branch needs: none where there is no such link, or where the parents are no tree
+unfoldable pub neededIn : List ℕ → ℕ → ℕ
+neededIn ps link = cond (ltb link (length ps) && parentsFit ps) (length (branch ps link)) 0
+
+unfoldable pub branchNeeded : Arm → ℕ → ℕ
+branchNeeded a link = neededIn (parentsOf a) link
+
+abbrev pub branchEntries : Arm → ℕ → ℕ → List ℕ
+branchEntries a link room = unlessOf (leb (branchNeeded a link) room) 1 ∷ unlessOf (ltb link (a .«link_count»)) 4 ∷ armEntries a
+
+unfoldable pub branchRefusal : Arm → ℕ → ℕ → ℕ
+branchRefusal a link room = lowest (branchEntries a link room)
+
+-- the count, and the branch at the front of the lent memory; refused, no count, and the memory is as it was
+unfoldable pub armBranch : Arm → ℕ → List ℕ → Outcome
+armBranch a link m =
+    let b = branch (parentsOf a) link in
+    given (branchRefusal a link (length m)) (length b) b m
