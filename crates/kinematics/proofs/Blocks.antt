@@ -113,6 +113,14 @@ copied-in at n s p z h e q =
     let y : z ≡ p = q ∙ rw k (overlaid-whole (take n (drop at s)) p (l ∙ sym e)) in
     rw (k, y, drop-drop)
 
+-- from one list into another
+pub copied-across : (at n : ℕ) (s r z : List Float) → at + n ≤ length s → at + n ≤ length r → z ≡ overlaid (take ((at + n) - at) (drop at s)) (take ((at + n) - at) (drop at r))
+    → take at s ++ (z ++ drop ((at + n) - at) (drop at s)) ≡ withPart at n (part at n r) s
+copied-across at n s r z h g q =
+    let k : (at + n) - at ≡ n = omega arith in
+    copied-in at n s (part at n r) z h (length-take-le n (drop at r) (rw length-drop (omega arith)))
+    (q ∙ ap (λ (m : ℕ). overlaid (take ((at + n) - at) (drop at s)) (take m (drop at r))) k)
+
 -- over the front of a list
 pub copied-front : (n : ℕ) (s p : List Float) → length p ≡ n → n ≤ length s → overlaid s p ≡ p ++ drop n s
 copied-front zero s [] e h = over-none s

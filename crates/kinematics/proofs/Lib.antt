@@ -5,3 +5,5 @@ pub mod Shift
 pub mod Laid
 pub mod Store
 pub mod Turns
+pub mod Same
+pub mod Ends

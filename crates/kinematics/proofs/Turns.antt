@@ -9,22 +9,23 @@ use native.Mathlib.Numerals.{add-one}
 use native.Mathlib.Decide.{decLt}
 use borrow.Author.Tests.{lt-ltb, le-ltb}
 use lib.Dec.{ltb}
-use lib.ListN.{length, getD, set, length-map, List·getD-map}
+use lib.ListN.{length, getD, set, length-set, length-map, List·getD-map}
 use lib.Ieee.{Float}
 use Rattle.limits.specs.Limits.{linkLimit, dofLimit, blockSize, tableSize}
 use Rattle.floats.specs.Floats.{allFinite}
 use Rattle.masks.specs.Masks.{dofsOf}
-use Rattle.masks.specs.Starts.{startOf}
+use Rattle.masks.specs.Starts.{startOf, totalOf}
 use Rattle.masks.proofs.Totals.{start-next, start-le}
+use Rattle.multibody_joint.specs.declared.Joint.{Joint}
 use Rattle.arm.specs.declared.Link.{Link}
 use Rattle.kinematics.specs.declared.Posed.{Posed}
 use Rattle.kinematics.specs.Blocks.{zeroBlock, blockAt, withBlock, copiedFrom}
 use Rattle.kinematics.specs.Link.{Kept, Inputs, posedOf, laterPosed, rootPosed, blockFrom, keptOf, rootKept, laterKept, finitePlace, finiteKept, withPlace, withKept, TurnedTo}
 use Rattle.kinematics.specs.Pass.{run, newAt, allTo}
-use Rattle.kinematics.specs.State.{State, state, noLink, linkAt, parentOf, lockedOf, inputsOf, keptAt, putKept, keptOps, resultOf, stateAfter, fineAfter, laid, newBlock}
+use Rattle.kinematics.specs.State.{State, state, noLink, linkAt, parentOf, lockedOf, inputsOf, keptAt, putKept, keptOps, resultOf, stateAfter, fineAfter, laid, newBlock, WorkedOut}
 use Rattle.kinematics.proofs.Small.{and-true}
 use Rattle.kinematics.proofs.Pass.{turn-shape, tests-run, stays-good}
-use Rattle.kinematics.proofs.Laid.{laid-block, laid-more, laid-skip}
+use Rattle.kinematics.proofs.Laid.{laid-none, laid-block, laid-more, laid-skip}
 use Rattle.kinematics.proofs.Store.{Good, Shape, laws, blank, after-blank}
 
 -- ---- starts, along the links' masks
@@ -219,3 +220,71 @@ module _ (ls : List Link) (n : ℕ) (fit : n ≤ linkLimit) (sized : length ls �
 
       pub turn-fine : (f : Bool) → f ≡ fineTo ls b t j → (f && fine) ≡ fineTo ls b t (j + 1)
       turn-fine f e = fine-more ls b t j f fine e m (turned .test)
+
+-- ---- what the loop holds before turn j
+
+pub record Held (ls : List Link) (n : ℕ) (b : ℕ → Bool) (t work₀ : List Float) (j start : ℕ) (work : List Float) (links : List Link) (fine : Bool) : Type 0 where
+  pub within : j ≤ n
+  pub places : length links ≡ linkLimit
+  pub room : length work ≡ tableSize
+  pub begins : start ≡ startOf (map lockedOf ls) j
+  pub refreshed : links ≡ stateAfter ls j b t .links
+  pub blocks : work ≡ laid b (newBlock ls b t) j work₀
+  pub tested : fine ≡ fineTo ls b t j
+
+pub held-none : (ls : List Link) (n : ℕ) (b : ℕ → Bool) (t work₀ : List Float) → length ls ≡ linkLimit → length work₀ ≡ tableSize → Held ls n b t work₀ 0 0 work₀ ls true
+unfolding startOf totalOf
+held-none ls n b t work₀ p q = record {
+  within = omega arith;
+  places = p;
+  room = q;
+  begins = refl;
+  refreshed = none-links ls b t;
+  blocks = laid-none b (newBlock ls b t) work₀;
+  tested = refl;
+}
+
+module _ (ls : List Link) (n : ℕ) (fit : n ≤ linkLimit) (sized : length ls ≡ linkLimit) (b : ℕ → Bool) (t work₀ : List Float) (long : tableSize ≤ length t) (enough : length work₀ ≡ tableSize)
+    (j start : ℕ) (work : List Float) (links : List Link) (fine : Bool) (k : Held ls n b t work₀ j start work links fine) (h : j < n) (d : ℕ) (ed : d ≡ dofsOf (linkAt links j .joint .locked))
+    (work′ : List Float) (links′ : List Link) (fine′ : Bool) where
+  next-start : start + d ≡ startOf (map lockedOf ls) (j + 1)
+  next-start =
+      start-more ls j start d (omega arith) (k .begins)
+      (ed ∙ ap (λ (y : Joint). dofsOf (y .locked)) (own-joint ls n fit sized b t work₀ long enough j h links (k .refreshed) work (k .blocks)))
+
+  -- an unmarked link
+  pub held-skip : b j ≡ false → work′ ≡ work → links′ ≡ links → fine′ ≡ fine → Held ls n b t work₀ (j + 1) (start + d) work′ links′ fine′
+  held-skip m ew el ef = record {
+    within = omega arith;
+    places = ap length el ∙ k .places;
+    room = ap length ew ∙ k .room;
+    begins = next-start;
+    refreshed = el ∙ skip-links ls b t j links (k .refreshed) m;
+    blocks = ew ∙ laid-skip b (newBlock ls b t) j work₀ work (k .blocks) m;
+    tested = ef ∙ fine-skip ls b t j fine (k .tested) m;
+  }
+
+  -- a marked one
+  pub held-more : b j ≡ true → (p : ℕ) → p ≡ min (linkAt links j .parent) j → (c own : List Float) → c ≡ copiedFrom (ltb p j) (b p) (p * blockSize) t work
+      → (link : Link) (ok : Bool) → TurnedTo (posedOf (ltb p j) (linkAt links p) (linkAt links j)) (linkAt links j) start c own link ok
+      → work′ ≡ withBlock j own work → length work′ ≡ length work → links′ ≡ set links j link → fine′ ≡ (fine && ok) → Held ls n b t work₀ (j + 1) (start + d) work′ links′ fine′
+  held-more m p ep c own ec link ok turn ew lw el ef = record {
+    within = omega arith;
+    places = ap length el ∙ length-set links j link ∙ k .places;
+    room = lw ∙ k .room;
+    begins = next-start;
+    refreshed = el ∙ turn-links ls n fit sized b t work₀ long enough j h links (k .refreshed) work (k .blocks) p start ep (k .begins) c own ec link ok turn m;
+    blocks = ew ∙ turn-work ls n fit sized b t work₀ long enough j h links (k .refreshed) work (k .blocks) p start ep (k .begins) c own ec link ok turn m;
+    tested = ef ∙ turn-fine ls n fit sized b t work₀ long enough j h links (k .refreshed) work (k .blocks) p start ep (k .begins) c own ec link ok turn m fine (k .tested);
+  }
+
+-- all turns are done
+pub held-all : (ls : List Link) (n : ℕ) → n ≤ linkLimit → length ls ≡ linkLimit → (b : ℕ → Bool) (t work₀ : List Float) → tableSize ≤ length t → (j start : ℕ) (work : List Float) (links : List Link) (fine : Bool)
+    → Held ls n b t work₀ j start work links fine → n ≤ j → WorkedOut ls n b t work₀ work links fine
+held-all ls n fit sized b t work₀ long j start work links fine k h =
+    let e : j ≡ n = omega arith in
+    record {
+      blocks = k .blocks ∙ ap (λ (i : ℕ). laid b (newBlock ls b t) i work₀) e;
+      refreshed = k .refreshed ∙ ap (λ (i : ℕ). stateAfter ls i b t .links) e;
+      test = k .tested ∙ ap (fineTo ls b t) e ∙ fine-all ls b t n fit sized long;
+    }

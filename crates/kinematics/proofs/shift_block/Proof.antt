@@ -1,4 +1,5 @@
 -- `shift_block`: the first c columns are done, the rest is as it was. Assumes nothing.
+use lib.Ieee.{neg}
 use Rattle.kinematics.proofs.Shift.{columns-done, columns-more, columns-none, columnsTo}
 use Rattle.kinematics.specs.Blocks.{plusTimes, shifted}
 use lib.ListN.{length, length-set}
@@ -20,7 +21,7 @@ abbrev μ-loop : tie.MeasureT-loop
 
 -- src/lib.rt:46:5
 loop-holds : tie.Need-loop-holds Inv-loop μ-loop
-loop-holds c = (omega arith, c .before .pre, columns-none _ _ (c .before .args .block .now) (c .before .pre))
+loop-holds c = (omega arith, c .before .pre, columns-none (plusTimes (neg (c .before .args .shift .y))) (plusTimes (c .before .args .shift .x)) (c .before .args .block .now) (c .before .pre))
 
 -- src/lib.rt:47:23
 mul-w : tie.Need-mul-w Inv-loop μ-loop
@@ -100,8 +101,10 @@ same-length c = search needs
 returns : tie.Need-returns Inv-loop μ-loop
 unfolding shifted
 returns c = 
+    let f = plusTimes (neg (c .before .before .before .args .shift .y)) in
+    let g = plusTimes (c .before .before .before .args .shift .x) in
     let e : c .before .loop .c ≡ dofLimit = omega arith in
-    c .before .loop .inv .2 ∙ ap (λ (k : ℕ). columnsTo _ _ k (c .before .before .before .args .block .now)) e ∙ columns-done _ _ (c .before .before .before .args .block .now) (c .before .before .before .pre)
+    c .before .loop .inv .2 ∙ ap (λ (k : ℕ). columnsTo f g k (c .before .before .before .args .block .now)) e ∙ columns-done f g (c .before .before .before .args .block .now) (c .before .before .before .pre)
 
 pub shift-block-spec : {M : Type 1} → statement M
 shift-block-spec =

@@ -45,8 +45,8 @@ same-length c = search needs
 -- src/lib.rt:250:1
 returns : tie.Need-returns
 returns c = 
-    let e : length (c .before .before .before .before .before .before .args .block) ≡ blockSize = search needs in
-    copied-in (c .before .before .before .before .before .before .args .at) blockSize (c .before .before .before .before .before .before .args .to .now) (c .before .before .before .before .before .before .args .block) (c .before .before .copy .last .0) (c .before .before .before .before .before .before .pre) e (c .before .before .copy .ensures)
+    let e : length (c .before .before .before .before .before .before .args .t3) ≡ blockSize = search needs in
+    copied-in (c .before .before .before .before .before .before .args .at) blockSize (c .before .before .before .before .before .before .args .to .now) (c .before .before .before .before .before .before .args .t3) (c .before .before .copy .last .0) (c .before .before .before .before .before .before .pre) e (c .before .before .copy .ensures)
 
 pub store-block-spec : {M : Type 1} → statement M
 store-block-spec =
