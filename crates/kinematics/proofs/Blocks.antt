@@ -2,12 +2,13 @@
 use mathlib.Core.Path.{_≡_, refl, sym, ap, ap₂, _∙_}
 use mathlib.Core.Logic.{_≢_}
 use Prim.Native.Nat.{ℕ, zero, suc, _+_, _*_, _-_, _≤_, _<_}
-use mathlib.Core.List.{List, [], _∷_, _++_}
+use mathlib.Core.List.{List, [], _∷_, _++_, append-assoc}
 use native.Mathlib.Omega.{arith}
 use native.Mathlib.Nat.{zero-mul, suc-mul, mul-le-mul-right, add-sub-of-le}
 use native.Mathlib.Decide.{decLt}
-use lib.ListN.{length, take, drop, length-take, length-drop, length-append, take-append-drop}
-use lib.Seq.{take-at, drop-at, drop-append-le, take-append-le, length-take-le, drop-drop, take-take}
+use native.Mathlib.Numerals.{add-one}
+use lib.ListN.{length, getD, set, List·getD-append, take, drop, length-take, length-drop, length-append, take-append-drop}
+use lib.Seq.{take-at, drop-at, drop-append-le, take-append-le, length-take-le, drop-drop, take-take, getD-take, getD-drop, paste, paste-zero, paste-suc}
 use lib.Ieee.{Float}
 use Rattle.floats.specs.Floats.{overlaid}
 use Rattle.floats.proofs.Rows.{overlaid-whole}
@@ -89,20 +90,13 @@ blocks-same w (suc k) d e p q h =
     let m = suc-mul k w in
     let z : (l : List Float) → part (0 * w) w l ≡ take w l = λ l. ap (λ n. take w (drop n l)) (zero-mul w) in
     let next : (j : ℕ) → j < k → part (j * w) w (drop w d) ≡ part (j * w) w (drop w e) = λ j l.
-        (let g : w + j * w ≡ suc j * w = omega (arith, suc-mul j w) in
-        ap (take w) (drop-drop (j * w) w d ∙ ap (λ n. drop n d) g) ∙ h (suc j) (omega arith) ∙ sym (ap (take w) (drop-drop (j * w) w e ∙ ap (λ n. drop n e) g))) in
+    (let g : w + j * w ≡ suc j * w = omega (arith, suc-mul j w) in
+    ap (take w) (drop-drop (j * w) w d ∙ ap (λ n. drop n d) g) ∙ h (suc j) (omega arith) ∙ sym (ap (take w) (drop-drop (j * w) w e ∙ ap (λ n. drop n e) g))) in
     sym (take-append-drop w d)
     ∙ ap₂ _++_ (sym (z d) ∙ h 0 (omega arith) ∙ z e) (blocks-same w k (drop w d) (drop w e) (rw length-drop (omega arith)) (rw length-drop (omega arith)) next)
     ∙ take-append-drop w e
 
 -- ---- a part that is copied
-
--- out of a list, over a row of its length
-pub copied-out : (at n : ℕ) (s d : List Float) → at + n ≤ length s → length d ≡ n → overlaid d (take ((at + n) - at) (drop at s)) ≡ part at n s
-copied-out at n s d h e =
-    let k : (at + n) - at ≡ n = omega arith in
-    let l : length (take n (drop at s)) ≡ n = length-take-le n (drop at s) (rw length-drop (omega arith)) in
-    rw k (overlaid-whole d (take n (drop at s)) (e ∙ sym l))
 
 -- into a list: the part was lent, overlaid, and came back as z
 pub copied-in : (at n : ℕ) (s p z : List Float) → at + n ≤ length s → length p ≡ n → z ≡ overlaid (take ((at + n) - at) (drop at s)) p
@@ -114,12 +108,46 @@ copied-in at n s p z h e q =
     rw (k, y, drop-drop)
 
 -- from one list into another
-pub copied-across : (at n : ℕ) (s r z : List Float) → at + n ≤ length s → at + n ≤ length r → z ≡ overlaid (take ((at + n) - at) (drop at s)) (take ((at + n) - at) (drop at r))
-    → take at s ++ (z ++ drop ((at + n) - at) (drop at s)) ≡ withPart at n (part at n r) s
-copied-across at n s r z h g q =
+pub copied-across : (at from n : ℕ) (s r z : List Float) → at + n ≤ length s → from + n ≤ length r → z ≡ overlaid (take ((at + n) - at) (drop at s)) (take ((from + n) - from) (drop from r))
+    → take at s ++ (z ++ drop ((at + n) - at) (drop at s)) ≡ withPart at n (part from n r) s
+copied-across at from n s r z h g q =
+    let k : (from + n) - from ≡ n = omega arith in
+    copied-in at n s (part from n r) z h (length-take-le n (drop from r) (rw length-drop (omega arith)))
+    (q ∙ ap (λ (m : ℕ). overlaid (take ((at + n) - at) (drop at s)) (take m (drop from r))) k)
+
+-- further back in the same list, entry by entry
+module _ (from to n : ℕ) (d : List Float) (apart : from + n ≤ to) (fits : to + n ≤ length d) where
+  abbrev pub movedTo : ℕ → List Float
+  movedTo i = paste d to (part from n d) i
+
+  pub moved-more : (i : ℕ) → i < n → (l : List Float) → l ≡ movedTo i → (z : Float) → set l (to + i) (getD l (from + i) z) ≡ movedTo (i + 1)
+  moved-more i h l e z =
+      let s = part from n d in
+      let head : length (take to d) ≡ to = length-take-le to d (omega arith) in
+      let front : from + i < length (take to d ++ take i s) = omega (arith, length-append (take to d) (take i s)) in
+      let read : getD (movedTo i) (from + i) z ≡ getD s i z =
+          List·getD-append (take to d ++ take i s) (drop (to + i) d) z (from + i) front
+          ∙ List·getD-append (take to d) (take i s) z (from + i) (omega arith)
+          ∙ getD-take to d (from + i) z (omega arith)
+          ∙ sym (getD-take n (drop from d) i z h ∙ getD-drop from d i z) in
+      let room : i < length s = omega (arith, length-take-le n (drop from d) (rw length-drop (omega arith))) in
+      rw (e, read, add-one) (paste-suc d to s i z (omega arith) room)
+
+  pub moved-all : movedTo n ≡ withPart to n (part from n d) d
+  moved-all = rw (take-take n n (drop from d) (omega arith)) (append-assoc (take to d) (part from n d) (drop (to + n) d))
+
+-- a part that is replaced twice
+pub with-with : (at n : ℕ) (p q s : List Float) → at + n ≤ length s → length p ≡ n → withPart at n q (withPart at n p s) ≡ withPart at n q s
+with-with at n p q s h e =
+    ap₂ (λ (x y : List Float). x ++ (q ++ y))
+    (take-at (take at s) (p ++ drop (at + n) s) at (length-take-le at s (omega arith)))
+    (drop-with s at n p h e)
+
+-- a part of the list that was lent and came back as z
+pub lent-part : (at n : ℕ) (s z : List Float) → take at s ++ (z ++ drop ((at + n) - at) (drop at s)) ≡ withPart at n z s
+lent-part at n s z =
     let k : (at + n) - at ≡ n = omega arith in
-    copied-in at n s (part at n r) z h (length-take-le n (drop at r) (rw length-drop (omega arith)))
-    (q ∙ ap (λ (m : ℕ). overlaid (take ((at + n) - at) (drop at s)) (take m (drop at r))) k)
+    rw (k, drop-drop)
 
 -- over the front of a list
 pub copied-front : (n : ℕ) (s p : List Float) → length p ≡ n → n ≤ length s → overlaid s p ≡ p ++ drop n s

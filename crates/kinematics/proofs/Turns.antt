@@ -1,7 +1,7 @@
 -- A turn of the pass, whose blocks go into a work area: the link and its block are what the definition works out, as the parent's block is found where it
 -- was laid. Assumes nothing.
 use mathlib.Core.Path.{_≡_, refl, sym, ap, ap₂, _∙_, subst}
-use Prim.Native.Nat.{ℕ, zero, suc, min, _+_, _*_, _≤_, _<_}
+use Prim.Native.Nat.{ℕ, zero, suc, min, _+_, _*_, _-_, _≤_, _<_}
 use mathlib.Core.Bool.{Bool, true, false, cond, _&&_}
 use mathlib.Core.List.{List, [], _∷_, _++_, map}
 use native.Mathlib.Omega.{arith}
@@ -9,22 +9,23 @@ use native.Mathlib.Numerals.{add-one}
 use native.Mathlib.Decide.{decLt}
 use borrow.Author.Tests.{lt-ltb, le-ltb}
 use lib.Dec.{ltb}
-use lib.ListN.{length, getD, set, length-set, length-map, List·getD-map}
+use lib.ListN.{length, getD, set, take, drop, length-replicate, length-set, length-map, List·getD-map}
 use lib.Ieee.{Float}
 use Rattle.limits.specs.Limits.{linkLimit, dofLimit, blockSize, tableSize}
-use Rattle.floats.specs.Floats.{allFinite}
+use Rattle.floats.specs.Floats.{zero32, allFinite}
 use Rattle.masks.specs.Masks.{dofsOf}
 use Rattle.masks.specs.Starts.{startOf, totalOf}
 use Rattle.masks.proofs.Totals.{start-next, start-le}
 use Rattle.multibody_joint.specs.declared.Joint.{Joint}
 use Rattle.arm.specs.declared.Link.{Link}
 use Rattle.kinematics.specs.declared.Posed.{Posed}
-use Rattle.kinematics.specs.Blocks.{zeroBlock, blockAt, withBlock, copiedFrom}
+use Rattle.kinematics.specs.Blocks.{part, withPart, zeroBlock, blockAt, withBlock, copiedFrom}
 use Rattle.kinematics.specs.Link.{Kept, Inputs, posedOf, laterPosed, rootPosed, blockFrom, keptOf, rootKept, laterKept, finitePlace, finiteKept, withPlace, withKept, TurnedTo}
 use Rattle.kinematics.specs.Pass.{run, newAt, allTo}
 use Rattle.kinematics.specs.State.{State, state, noLink, linkAt, parentOf, lockedOf, inputsOf, keptAt, putKept, keptOps, resultOf, stateAfter, fineAfter, laid, newBlock, WorkedOut}
 use Rattle.kinematics.proofs.Small.{and-true}
 use Rattle.kinematics.proofs.Pass.{turn-shape, tests-run, stays-good}
+use Rattle.kinematics.proofs.Blocks.{part-length, block-same, block-length, lent-part, with-with}
 use Rattle.kinematics.proofs.Laid.{laid-none, laid-block, laid-more, laid-skip}
 use Rattle.kinematics.proofs.Store.{Good, Shape, laws, blank, after-blank}
 
@@ -264,19 +265,47 @@ module _ (ls : List Link) (n : ℕ) (fit : n ≤ linkLimit) (sized : length ls �
     tested = ef ∙ fine-skip ls b t j fine (k .tested) m;
   }
 
-  -- a marked one
-  pub held-more : b j ≡ true → (p : ℕ) → p ≡ min (linkAt links j .parent) j → (c own : List Float) → c ≡ copiedFrom (ltb p j) (b p) (p * blockSize) t work
-      → (link : Link) (ok : Bool) → TurnedTo (posedOf (ltb p j) (linkAt links p) (linkAt links j)) (linkAt links j) start c own link ok
-      → work′ ≡ withBlock j own work → length work′ ≡ length work → links′ ≡ set links j link → fine′ ≡ (fine && ok) → Held ls n b t work₀ (j + 1) (start + d) work′ links′ fine′
-  held-more m p ep c own ec link ok turn ew lw el ef = record {
-    within = omega arith;
-    places = ap length el ∙ length-set links j link ∙ k .places;
-    room = lw ∙ k .room;
-    begins = next-start;
-    refreshed = el ∙ turn-links ls n fit sized b t work₀ long enough j h links (k .refreshed) work (k .blocks) p start ep (k .begins) c own ec link ok turn m;
-    blocks = ew ∙ turn-work ls n fit sized b t work₀ long enough j h links (k .refreshed) work (k .blocks) p start ep (k .begins) c own ec link ok turn m;
-    tested = ef ∙ turn-fine ls n fit sized b t work₀ long enough j h links (k .refreshed) work (k .blocks) p start ep (k .begins) c own ec link ok turn m fine (k .tested);
-  }
+  -- a marked one: its place in the work area took the block that it copies, and then its own
+  module _ (m : b j ≡ true) (p : ℕ) (ep : p ≡ min (linkAt links j .parent) j) (work₁ : List Float) (e₁ : work₁ ≡ withBlock j (copiedFrom (ltb p j) (b p) (p * blockSize) t work) work) where
+    abbrev c : List Float
+    c = copiedFrom (ltb p j) (b p) (p * blockSize) t work
+
+    copied-length : length (copiedFrom (ltb p j) (b p) (p * blockSize) t work) ≡ blockSize
+    unfolding copiedFrom
+    copied-length = go (ltb p j) (b p)
+      where
+        go : (later fresh : Bool) → length (cond later (part (p * blockSize) blockSize (cond fresh work t)) zeroBlock) ≡ blockSize
+        go true true = part-length blockSize linkLimit work (omega (arith, k .room)) p (omega arith)
+        go true false = part-length blockSize linkLimit t (omega arith) p (omega arith)
+        go false fresh = length-replicate blockSize zero32
+
+    placed : take ((j * blockSize + blockSize) - j * blockSize) (drop (j * blockSize) work₁) ≡ c
+    placed =
+        let n′ : (j * blockSize + blockSize) - j * blockSize ≡ blockSize = omega arith in
+        ap (λ (i : ℕ). take i (drop (j * blockSize) work₁)) n′ ∙ ap (blockAt j) e₁ ∙ block-same blockSize linkLimit work (omega (arith, k .room)) j c (omega arith) copied-length
+
+    owned : (own : List Float) → take (j * blockSize) work₁ ++ (own ++ drop ((j * blockSize + blockSize) - j * blockSize) (drop (j * blockSize) work₁)) ≡ withBlock j own work
+    owned own =
+        lent-part (j * blockSize) blockSize work₁ own
+        ∙ ap (withBlock j own) e₁
+        ∙ with-with (j * blockSize) blockSize c own work (omega (arith, k .room, fit, h)) copied-length
+
+    pub held-more : (own : List Float) (link : Link) (ok : Bool)
+        → TurnedTo (posedOf (ltb p j) (linkAt links p) (linkAt links j)) (linkAt links j) start (take ((j * blockSize + blockSize) - j * blockSize) (drop (j * blockSize) work₁)) own link ok
+        → work′ ≡ take (j * blockSize) work₁ ++ (own ++ drop ((j * blockSize + blockSize) - j * blockSize) (drop (j * blockSize) work₁))
+        → length own ≡ length (take ((j * blockSize + blockSize) - j * blockSize) (drop (j * blockSize) work₁))
+        → links′ ≡ set links j link → fine′ ≡ (fine && ok) → Held ls n b t work₀ (j + 1) (start + d) work′ links′ fine′
+    held-more own link ok turn₁ ew lw el ef =
+        let turn = subst (λ (y : List Float). TurnedTo (posedOf (ltb p j) (linkAt links p) (linkAt links j)) (linkAt links j) start y own link ok) placed turn₁ in
+        record {
+          within = omega arith;
+          places = ap length el ∙ length-set links j link ∙ k .places;
+          room = ap length (ew ∙ owned own) ∙ block-length blockSize linkLimit work (omega (arith, k .room)) j own (omega arith) (lw ∙ ap length placed ∙ copied-length) ∙ k .room;
+          begins = next-start;
+          refreshed = el ∙ turn-links ls n fit sized b t work₀ long enough j h links (k .refreshed) work (k .blocks) p start ep (k .begins) c own refl link ok turn m;
+          blocks = ew ∙ owned own ∙ turn-work ls n fit sized b t work₀ long enough j h links (k .refreshed) work (k .blocks) p start ep (k .begins) c own refl link ok turn m;
+          tested = ef ∙ turn-fine ls n fit sized b t work₀ long enough j h links (k .refreshed) work (k .blocks) p start ep (k .begins) c own refl link ok turn m fine (k .tested);
+        }
 
 -- all turns are done
 pub held-all : (ls : List Link) (n : ℕ) → n ≤ linkLimit → length ls ≡ linkLimit → (b : ℕ → Bool) (t work₀ : List Float) → tableSize ≤ length t → (j start : ℕ) (work : List Float) (links : List Link) (fine : Bool)

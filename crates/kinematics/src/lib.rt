@@ -2,10 +2,11 @@
 // Poses and shifts are kept in the links, Jacobian blocks in lent tables.
 ghost use mathlib.Core.Path.{_≡_};
 ghost use mathlib.Core.Bool.{Bool, true, false};
-ghost use Prim.Native.Nat.{min, _+_, _≤_, _<_};
+ghost use Prim.Native.Nat.{min, _+_, _*_, _≤_, _<_};
+ghost use lib.Dec.{ltb};
 ghost use lib.ListN.{length};
 ghost use Rattle.limits.specs.Limits.{linkLimit, dofLimit, blockSize, tableSize};
-ghost use Rattle.kinematics.specs.Blocks.{part, withPart, shifted, columnAdded, axisAdded, ownAdded, copiedFrom};
+ghost use Rattle.kinematics.specs.Blocks.{part, withPart, withBlock, shifted, columnAdded, axisAdded, ownAdded, copiedFrom};
 ghost use Rattle.kinematics.specs.Link.{rootPosed, laterPosed, posedOf, blockFrom, withPlace, finitePlace, TurnedTo};
 ghost use Rattle.kinematics.specs.State.{marked, blocksOf, laid, WorkedOut};
 ghost use Rattle.kinematics.specs.Answers.{out, refreshMarked, refreshAll};
@@ -187,36 +188,44 @@ fn fewer(a: usize, b: usize) -> usize
     if a < b { a } else { b }
 }
 
-// The block at `at` that a later link copies: a marked parent's was just worked out, any other is kept in the tables. A root copies zeros.
-fn copied(later: bool, fresh: bool, at: usize, tables: &[f32], work: &[f32]) -> [f32; BLOCK]
-    requires { ⌜ (at + blockSize ≤ length (now tables)) × (at + blockSize ≤ length (now work)) ⌝ }
-    ensures { λ r. ⌜ r ≡ copiedFrom later fresh at (now (tables .entry)) (now (work .entry)) ⌝ }
+// A block goes further back in the same list.
+fn move_block(work: &mut [f32], from: usize, to: usize)
+    requires { ⌜ (from + blockSize ≤ to) × (to + blockSize ≤ length (now work)) ⌝ }
+    ensures { λ _. ⌜ now (work .exit) ≡ withPart to blockSize (part from blockSize (now (work .entry))) (now (work .entry)) ⌝ }
 {
-    let mut block = [0.0f32; BLOCK];
-    let end = at + BLOCK;
-    if !later {
-        return block;
+    let mut i: usize = 0;
+    while i < BLOCK {
+        work[to + i] = work[from + i];
+        i += 1;
     }
-    if fresh {
-        copy(&mut block, &work[at..end]);
-        return block;
+}
+
+// Link j's place in the work area takes the block that the link copies: that of its parent p, which was just worked out there if p is marked, and else
+// is kept in the tables. A root copies zeros.
+fn copy_parent(work: &mut [f32], tables: &[f32], p: usize, j: usize, fresh: bool)
+    requires { ⌜ (j < linkLimit) × (tableSize ≤ length (now tables)) × (length (now work) ≡ tableSize) ⌝ }
+    ensures { λ _. ⌜ now (work .exit) ≡ withBlock j (copiedFrom (ltb p j) fresh (p * blockSize) (now (tables .entry)) (now (work .entry))) (now (work .entry)) ⌝ }
+{
+    let to = j * BLOCK;
+    let end = to + BLOCK;
+    if p < j {
+        let from = p * BLOCK;
+        let from_end = from + BLOCK;
+        if fresh {
+            move_block(work, from, to);
+            return;
+        }
+        copy(&mut work[to..end], &tables[from..from_end]);
+        return;
     }
-    copy(&mut block, &tables[at..end]);
-    block
+    let zeros = [0.0f32; BLOCK];
+    copy(&mut work[to..end], &zeros);
 }
 
 // The links that a pass leaves, and whether every result that it worked out is finite.
 pub struct Refreshed {
     pub fine: bool,
     pub links: [Link; LINKS],
-}
-
-fn store_block(to: &mut [f32], at: usize, block: [f32; BLOCK])
-    requires { ⌜ at + blockSize ≤ length (now to) ⌝ }
-    ensures { λ _. ⌜ now (to .exit) ≡ withPart at blockSize block (now (to .entry)) ⌝ }
-{
-    let end = at + BLOCK;
-    copy(&mut to[at..end], &block);
 }
 
 // Of the first n links those marked, rising, each from what is kept of its parent. Their blocks go into `work`.
@@ -241,12 +250,12 @@ fn work_out(
         if marks[j] {
             let p = fewer(l.parent as usize, j);
             let above = links[p];
-            let later = p < j;
-            let mut block = copied(later, marks[p], p * BLOCK, tables, work);
-            let t = refresh_link(l, above, later, start, &mut block);
+            copy_parent(work, tables, p, j, marks[p]);
+            let at = j * BLOCK;
+            let end = at + BLOCK;
+            let t = refresh_link(l, above, p < j, start, &mut work[at..end]);
             let link = t.link;
             links[j] = link;
-            store_block(work, j * BLOCK, block);
             fine = fine & t.fine;
         }
         start += dofs(l.joint.locked);

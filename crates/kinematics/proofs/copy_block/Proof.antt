@@ -54,7 +54,7 @@ same-length c = search needs
 
 -- src/lib.rt:259:1
 returns : tie.Need-returns
-returns c = copied-across (c .before .before .before .before .before .before .before .args .at) blockSize (c .before .before .before .before .before .before .before .args .to .now) (c .before .before .before .before .before .before .before .args .from .now) (c .before .before .copy .last .0) (c .before .before .before .before .before .before .before .pre .0) (c .before .before .before .before .before .before .before .pre .1) (c .before .before .copy .ensures)
+returns c = copied-across (c .before .before .before .before .before .before .before .args .at) (c .before .before .before .before .before .before .before .args .at) blockSize (c .before .before .before .before .before .before .before .args .to .now) (c .before .before .before .before .before .before .before .args .from .now) (c .before .before .copy .last .0) (c .before .before .before .before .before .before .before .pre .0) (c .before .before .before .before .before .before .before .pre .1) (c .before .before .copy .ensures)
 
 pub copy-block-spec : {M : Type 1} → statement M
 copy-block-spec =
