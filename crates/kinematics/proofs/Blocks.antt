@@ -7,7 +7,7 @@ use native.Mathlib.Omega.{arith}
 use native.Mathlib.Nat.{zero-mul, suc-mul, mul-le-mul-right, add-sub-of-le}
 use native.Mathlib.Decide.{decLt}
 use native.Mathlib.Numerals.{add-one}
-use lib.ListN.{length, getD, set, List·getD-append, take, drop, length-take, length-drop, length-append, take-append-drop}
+use lib.ListN.{length, getD, set, List·getD-append, take, drop, length-take, length-drop, length-append, take-append-drop, replicate, length-replicate, replicate-append-replicate}
 use lib.Seq.{take-at, drop-at, drop-append-le, take-append-le, length-take-le, drop-drop, take-take, getD-take, getD-drop, paste, paste-zero, paste-suc}
 use lib.Ieee.{Float}
 use Rattle.floats.specs.Floats.{overlaid}
@@ -160,3 +160,16 @@ copied-front zero s (y ∷ p) e h = absurd (omega arith)
 copied-front (suc n) s [] e h = absurd (omega arith)
 copied-front (suc n) [] (y ∷ p) e h = absurd (omega arith)
 copied-front (suc n) (x ∷ s) (y ∷ p) e h = ap (λ (l : List Float). y ∷ l) (copied-front n s p (omega arith) (omega arith))
+
+-- a list of one value, block by block
+drop-replicated : (k n : ℕ) (a : Float) → drop k (replicate (k + n) a) ≡ replicate n a
+drop-replicated k n a = ap (drop k) (sym (replicate-append-replicate k n a)) ∙ drop-at (replicate k a) (replicate n a) k (length-replicate k a)
+
+pub replicated : (w k : ℕ) (a : Float) (j : ℕ) → j < k → part (j * w) w (replicate (k * w) a) ≡ replicate w a
+replicated w k a j h =
+    let r = (k * w) - (j * w + w) in
+    let e : j * w + (w + r) ≡ k * w = omega (arith, room w h) in
+    ap (λ (n : ℕ). take w (drop (j * w) (replicate n a))) (sym e)
+    ∙ ap (take w) (drop-replicated (j * w) (w + r) a)
+    ∙ ap (take w) (sym (replicate-append-replicate w r a))
+    ∙ take-at (replicate w a) (replicate r a) w (length-replicate w a)

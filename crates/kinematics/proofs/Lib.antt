@@ -7,3 +7,4 @@ pub mod Store
 pub mod Turns
 pub mod Same
 pub mod Ends
+pub mod Promises

@@ -3,3 +3,4 @@ pub mod Link
 pub mod Pass
 pub mod State
 pub mod Answers
+pub mod Promises
