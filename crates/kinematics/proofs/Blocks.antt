@@ -7,8 +7,8 @@ use native.Mathlib.Omega.{arith}
 use native.Mathlib.Nat.{zero-mul, suc-mul, mul-le-mul-right, add-sub-of-le}
 use native.Mathlib.Decide.{decLt}
 use native.Mathlib.Numerals.{add-one}
-use lib.ListN.{length, getD, set, List·getD-append, take, drop, length-take, length-drop, length-append, take-append-drop, replicate, length-replicate, replicate-append-replicate}
-use lib.Seq.{take-at, drop-at, drop-append-le, take-append-le, length-take-le, drop-drop, take-take, getD-take, getD-drop, paste, paste-zero, paste-suc}
+use lib.ListN.{length, getD, set, List·getD-append, take, drop, length-drop, length-append, take-append-drop, replicate, length-replicate, replicate-append-replicate}
+use lib.Seq.{take-at, drop-at, drop-append-le, take-append-le, length-take-le, drop-drop, take-take, getD-take, getD-drop, paste, paste-suc}
 use lib.Ieee.{Float}
 use Rattle.floats.specs.Floats.{overlaid}
 use Rattle.floats.proofs.Rows.{overlaid-whole}
@@ -126,10 +126,10 @@ module _ (from to n : ℕ) (d : List Float) (apart : from + n ≤ to) (fits : to
       let head : length (take to d) ≡ to = length-take-le to d (omega arith) in
       let front : from + i < length (take to d ++ take i s) = omega (arith, length-append (take to d) (take i s)) in
       let read : getD (movedTo i) (from + i) z ≡ getD s i z =
-          List·getD-append (take to d ++ take i s) (drop (to + i) d) z (from + i) front
-          ∙ List·getD-append (take to d) (take i s) z (from + i) (omega arith)
-          ∙ getD-take to d (from + i) z (omega arith)
-          ∙ sym (getD-take n (drop from d) i z h ∙ getD-drop from d i z) in
+      List·getD-append (take to d ++ take i s) (drop (to + i) d) z (from + i) front
+      ∙ List·getD-append (take to d) (take i s) z (from + i) (omega arith)
+      ∙ getD-take to d (from + i) z (omega arith)
+      ∙ sym (getD-take n (drop from d) i z h ∙ getD-drop from d i z) in
       let room : i < length s = omega (arith, length-take-le n (drop from d) (rw length-drop (omega arith))) in
       rw (e, read, add-one) (paste-suc d to s i z (omega arith) room)
 

@@ -1,7 +1,7 @@
 -- The two passes' ends: too short, not finite, or done. Assumes nothing.
-use mathlib.Core.Path.{_≡_, refl, sym, ap, ap₂, _∙_}
+use mathlib.Core.Path.{_≡_, sym, ap, _∙_}
 use Prim.Native.Nat.{ℕ, min, _+_, _*_, _≤_, _<_}
-use mathlib.Core.Bool.{Bool, true, false, cond, _&&_}
+use mathlib.Core.Bool.{Bool, true, false, cond}
 use mathlib.Core.List.{List, _++_}
 use native.Mathlib.Omega.{arith}
 use borrow.Author.Tests.{lt-leb, le-leb}
@@ -14,7 +14,7 @@ use Rattle.arm.specs.declared.Link.{Link}
 use Rattle.kinematics.specs.declared.Refreshed.{Refreshed}
 use Rattle.kinematics.specs.Blocks.{blockAt}
 use Rattle.kinematics.specs.State.{State, marked, every, stateAfter, fineAfter, cleared, laid, blocksOf, newBlock, WorkedOut}
-use Rattle.kinematics.specs.Answers.{Outcome, out, passed, refreshMarked, refreshAll}
+use Rattle.kinematics.specs.Answers.{out, passed, refreshMarked, refreshAll}
 use Rattle.kinematics.proofs.Blocks.{copied-front}
 use Rattle.kinematics.proofs.Laid.{laid-same, laid-block, laid-length}
 use Rattle.kinematics.proofs.Turns.{tables-after, new-size}
@@ -25,9 +25,6 @@ zeros = replicate tableSize zero32
 
 zeros-length : length zeros ≡ tableSize
 zeros-length = length-replicate tableSize zero32
-
-pub short : {n m : ℕ} → m < n → leb n m ≡ false
-short {n} {m} h = lt-leb n m h
 
 module _ (f : Bool) (s : State) (ls : List Link) (t : List Float) where
   passed-no : f ≡ false → out (record { fine = false; links = ls }) t ≡ passed f s ls t

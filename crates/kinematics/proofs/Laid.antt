@@ -1,18 +1,17 @@
 -- Blocks laid over a list of blocks: the marked ones are the new, the others are as they were. Assumes nothing.
 use mathlib.Core.Path.{_≡_, refl, sym, ap, ap₂, _∙_}
-use mathlib.Core.Logic.{_≢_}
 use Prim.Native.Nat.{ℕ, zero, suc, _+_, _*_, _≤_, _<_}
 use mathlib.Core.Bool.{Bool, true, false, cond}
-use mathlib.Core.List.{List, [], _∷_, _++_, append-assoc}
+use mathlib.Core.List.{List, _++_, append-assoc}
 use native.Mathlib.Omega.{arith}
 use native.Mathlib.Numerals.{add-one}
 use native.Mathlib.Decide.{decLt}
 use lib.ListN.{length, take, drop}
 use lib.Seq.{take-append-le, drop-append-le}
 use lib.Ieee.{Float}
-use Rattle.limits.specs.Limits.{linkLimit, blockSize, tableSize}
+use Rattle.limits.specs.Limits.{blockSize}
 use Rattle.kinematics.specs.Blocks.{withPart, blockAt, withBlock}
-use Rattle.kinematics.specs.State.{laid, blocksOf}
+use Rattle.kinematics.specs.State.{laid}
 use Rattle.kinematics.proofs.Blocks.{room, block-same, block-other, block-length}
 
 pub laid-none : (b : ℕ → Bool) (new : ℕ → List Float) (t : List Float) → t ≡ laid b new 0 t

@@ -8,3 +8,4 @@ pub mod Turns
 pub mod Same
 pub mod Ends
 pub mod Promises
+pub mod Columns

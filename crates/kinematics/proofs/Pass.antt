@@ -2,14 +2,14 @@
 -- is by its parent's alone, which the pass has left before it. Assumes nothing.
 use mathlib.Core.Path.{_≡_, refl, sym, ap, ap₂, _∙_}
 use mathlib.Core.Logic.{_≢_}
-use Prim.Native.Nat.{ℕ, zero, suc, _+_, _≤_, _<_}
+use Prim.Native.Nat.{ℕ, zero, suc, _≤_, _<_}
 use mathlib.Core.Bool.{Bool, true, false, cond}
 use native.Mathlib.Omega.{arith}
 use native.Mathlib.Decide.{le-ind}
 use borrow.Author.Tests.{ltb-true}
 use lib.Dec.{ltb}
 use Rattle.kinematics.specs.Pass.{Ops, Laws, Closed, newAt, run, FreshAt, allTo}
-use Rattle.kinematics.proofs.Small.{not-then, pick, all-same, differ}
+use Rattle.kinematics.proofs.Small.{not-then, pick, all-same}
 
 module _ {In Out Store : Type 0} (O : Ops In Out Store) (par : ℕ → ℕ) (xs : ℕ → In) where
   -- ---- one result

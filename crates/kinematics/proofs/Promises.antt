@@ -6,8 +6,8 @@ use mathlib.Core.List.{List, [], _∷_, _++_, map}
 use native.Mathlib.Omega.{arith}
 use native.Mathlib.Decide.{decLt}
 use native.Mathlib.Numerals.{add-one}
-use lib.ListN.{length, getD, set, take, drop, replicate, length-replicate, length-append, length-set, take-append-drop}
-use lib.Seq.{ext-getD, drop-at, length-take-le, getD-set-same, getD-set-other}
+use lib.ListN.{length, set, take, drop, replicate, length-replicate, length-append, take-append-drop}
+use lib.Seq.{ext-getD, drop-at, length-take-le}
 use lib.Ieee.{Float}
 use Rattle.limits.specs.Limits.{linkLimit, blockSize, tableSize}
 use Rattle.floats.specs.Floats.{zero32}
@@ -15,10 +15,10 @@ use Rattle.masks.specs.Masks.{dofsOf}
 use Rattle.masks.specs.Starts.{startOf, totalOf}
 use Rattle.arm.specs.declared.Link.{Link}
 use Rattle.kinematics.specs.Blocks.{blockAt, zeroBlock, withBlock}
-use Rattle.kinematics.specs.Link.{Kept, Inputs, finiteKept, withPlace, withKept}
-use Rattle.kinematics.specs.Pass.{run, allTo}
+use Rattle.kinematics.specs.Link.{Kept, finiteKept, withPlace, withKept}
+use Rattle.kinematics.specs.Pass.{run}
 use Rattle.kinematics.specs.State.{State, state, noLink, linkAt, parentOf, lockedOf, inputsOf, keptAt, putKept, keptOps, every, resultOf, stateAfter, fineAfter, cleared, laid, newBlock}
-use Rattle.kinematics.specs.Promises.{Fresh, Untouched, Fits, Ready, LikeFull, AllFresh, Stays, Rising, UpTo}
+use Rattle.kinematics.specs.Promises.{Fits, Ready, LikeFull, AllFresh, Stays, Rising, UpTo}
 use Rattle.kinematics.proofs.Small.{all-same}
 use Rattle.kinematics.proofs.Pass.{new-same, untouched, beyond, stays-good, pass-full, pass-tests}
 use Rattle.kinematics.proofs.Blocks.{blocks-same, block-front, replicated}
@@ -50,7 +50,7 @@ module _ (ls : List Link) (n : ℕ) (b : ℕ → Bool) (t : List Float) (f : Fit
   abbrev s : State
   s = stateAfter ls n b t
 
-  after-good : Good (stateAfter ls n b t)
+  pub after-good : Good (stateAfter ls n b t)
   unfolding stateAfter laws
   after-good = stays-good keptOps (parentOf ls) (inputsOf ls) linkLimit n (f .few) laws b (state ls t) (f .places, f .long)
 
@@ -121,16 +121,16 @@ module _ (ls : List Link) (n : ℕ) (b : ℕ → Bool) (t : List Float) (f : Fit
   same-links : stateAfter ls n b t .links ≡ stateAfter ls n every (cleared t) .links
   same-links =
       ext-getD noLink _ _ (after-good ls n b t f .0 ∙ sym (after-good ls n every (cleared t) f′ .0)) (λ j h.
-          link-back (stateAfter ls n b t) (stateAfter ls n every (cleared t)) j (after-blank ls n b t j ∙ sym (after-blank ls n every (cleared t) j)) (same-all j (omega (arith, after-good ls n b t f .0))))
+      link-back (stateAfter ls n b t) (stateAfter ls n every (cleared t)) j (after-blank ls n b t j ∙ sym (after-blank ls n every (cleared t) j)) (same-all j (omega (arith, after-good ls n b t f .0))))
 
   same-tables : stateAfter ls n b t .tables ≡ stateAfter ls n every (cleared t) .tables
   same-tables =
       split ls n b t f
       ∙ ap₂ _++_
       (blocks-same blockSize linkLimit _ _ (front-length ls n b t f) (front-length ls n every (cleared t) f′) (λ j h.
-          front-block ls n b t f j h
-          ∙ kept-block (stateAfter ls n b t) (stateAfter ls n every (cleared t)) j (same-all j h)
-          ∙ sym (front-block ls n every (cleared t) f′ j h)))
+      front-block ls n b t f j h
+      ∙ kept-block (stateAfter ls n b t) (stateAfter ls n every (cleared t)) j (same-all j h)
+      ∙ sym (front-block ls n every (cleared t) f′ j h)))
       (sym (drop-at (replicate tableSize zero32) (drop tableSize t) tableSize zeros-length))
       ∙ sym (split ls n every (cleared t) f′)
 
@@ -200,7 +200,7 @@ module _ (ls ls′ : List Link) (n : ℕ) (b : ℕ → Bool) (t : List Float) (f
           (after-good ls k b t (fits-at ls k (omega arith) f) .0 ∙ sym (after-good ls′ k b t (fits-at ls′ k (omega arith) f′) .0))
           a
           (new-same keptOps (parentOf ls) (inputsOf ls) (parentOf ls′) (inputsOf ls′) (stateAfter ls k b t) (stateAfter ls′ k b t) k (parents k h) (inputs k h) (λ q.
-              kept-same (stateAfter ls k b t) (stateAfter ls′ k b t) (parentOf ls k) (a .0 (parentOf ls k) (omega arith)) (a .1)))
+          kept-same (stateAfter ls k b t) (stateAfter ls′ k b t) (parentOf ls k) (a .0 (parentOf ls k) (omega arith)) (a .1)))
       go false a = a
 
   agree-fine : fineAfter ls n b t ≡ fineAfter ls′ n b t

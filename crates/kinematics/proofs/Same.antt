@@ -2,25 +2,21 @@
 -- blocks stay. Each law is that of any store. Assumes nothing.
 use mathlib.Core.Path.{_≡_, refl, sym, ap, ap₂, _∙_}
 use Prim.Native.Nat.{ℕ, zero, suc, _+_, _*_, _≤_, _<_}
-use mathlib.Core.Bool.{Bool, true, false, cond, _&&_}
-use mathlib.Core.List.{List, [], _∷_, _++_, map}
+use mathlib.Core.Bool.{Bool}
+use mathlib.Core.List.{List, _++_}
 use native.Mathlib.Omega.{arith}
-use native.Mathlib.Decide.{decLt}
-use lib.ListN.{length, getD, set, take, drop, replicate, length-replicate, length-drop, length-append, take-append-drop}
-use lib.Seq.{ext-getD, drop-at, take-at, length-take-le}
+use lib.ListN.{length, set, drop, replicate, length-replicate, length-append}
 use lib.Ieee.{Float}
 use Rattle.limits.specs.Limits.{linkLimit, blockSize, tableSize}
 use Rattle.floats.specs.Floats.{zero32}
 use Rattle.arm.specs.declared.Link.{Link}
-use Rattle.kinematics.specs.Blocks.{part, blockAt, withBlock}
-use Rattle.kinematics.specs.Link.{Kept, Inputs, rootKept, laterKept, finiteKept, withPlace, withKept}
-use Rattle.kinematics.specs.Pass.{Closed, FreshAt, newAt, run, allTo}
-use Rattle.kinematics.specs.State.{State, state, noLink, linkAt, parentOf, inputsOf, keptAt, putKept, keptOps, every, resultOf, stateAfter, fineAfter, cleared, laid, newBlock, WorkedOut}
+use Rattle.kinematics.specs.Link.{Kept, finiteKept, withKept}
+use Rattle.kinematics.specs.Pass.{run}
+use Rattle.kinematics.specs.State.{State, state, linkAt, parentOf, inputsOf, keptAt, putKept, keptOps, every, resultOf, stateAfter, fineAfter, cleared, laid, newBlock, WorkedOut}
 use Rattle.kinematics.proofs.Small.{all-same}
-use Rattle.kinematics.proofs.Pass.{new-same, only, run-same, full-fresh, untouched, beyond, stays-good, pass-full, pass-tests}
-use Rattle.kinematics.proofs.Blocks.{blocks-same, room, take-drop-take, block-front}
-use Rattle.kinematics.proofs.Laid.{laid-same, laid-front, laid-beyond}
-use Rattle.kinematics.proofs.Store.{Good, laws, blank, after-blank}
+use Rattle.kinematics.proofs.Pass.{new-same, only, run-same, full-fresh}
+use Rattle.kinematics.proofs.Laid.{laid-same, laid-front}
+use Rattle.kinematics.proofs.Store.{laws}
 use Rattle.kinematics.proofs.Turns.{newOf, tables-after, new-size}
 
 -- ---- marks that agree

@@ -1,7 +1,7 @@
 -- The shift of a block, column by column: the first c columns of rows 0 and 1 are done, the rest is as it was. Over any width and any two functions. Assumes nothing.
-use mathlib.Core.Path.{_≡_, refl, sym, ap, ap₂, _∙_}
+use mathlib.Core.Path.{_≡_, refl, sym, ap, _∙_}
 use mathlib.Core.List.{List, [], _∷_, _++_}
-use Prim.Native.Nat.{ℕ, zero, suc, min, _+_, _*_, _≤_, _<_}
+use Prim.Native.Nat.{ℕ, suc, _+_, _*_, _≤_, _<_}
 use native.Mathlib.Omega.{arith}
 use lib.ListN.{length, take, drop, getD, set, length-append, length-take, length-drop, take-append-drop, List·getD-append}
 use lib.Seq.{getD-append-add, set-append-left, take-all, drop-drop, length-take-le}
@@ -9,7 +9,7 @@ use lib.Ieee.{Float, nan}
 use Rattle.limits.specs.Limits.{dofLimit, blockSize}
 use Rattle.floats.specs.Floats.{zipTo}
 use Rattle.floats.proofs.Rows.{zipped, zipped-more, zipped-all, length-zipTo}
-use Rattle.kinematics.specs.Blocks.{part, row}
+use Rattle.kinematics.specs.Blocks.{row}
 
 set-right : (xs ys : List Float) (i : ℕ) (a : Float) → set (xs ++ ys) (length xs + i) a ≡ xs ++ set ys i a
 set-right [] ys i a = let e : 0 + i ≡ i = omega arith in ap (λ (k : ℕ). set ys k a) e

@@ -1,18 +1,16 @@
 -- What is kept of an arm is a store: what is put of a link is read back, the others stay; and a pass leaves every link's inputs. Assumes nothing.
-use mathlib.Core.Path.{_≡_, refl, sym, ap, ap₂, _∙_}
+use mathlib.Core.Path.{_≡_, refl, _∙_}
 use mathlib.Core.Logic.{_≢_}
-use Prim.Native.Nat.{ℕ, zero, suc, _+_, _*_, _≤_, _<_}
+use Prim.Native.Nat.{ℕ, zero, suc, _+_, _≤_, _<_}
 use mathlib.Core.Bool.{Bool, true, false, cond}
-use mathlib.Core.List.{List, [], _∷_, _++_, map}
+use mathlib.Core.List.{List, [], _∷_, _++_}
 use native.Mathlib.Omega.{arith}
-use lib.ListN.{length, getD, set, take, drop, length-drop, length-set, length-append, length-replicate, replicate}
+use lib.ListN.{length, set, length-set, length-append, length-replicate}
 use lib.Seq.{getD-set-same, getD-set-other}
 use lib.Ieee.{Float, neg}
-use Rattle.limits.specs.Limits.{linkLimit, dofLimit, blockSize, tableSize}
+use Rattle.limits.specs.Limits.{linkLimit, blockSize, tableSize}
 use Rattle.floats.specs.Floats.{zero32, zipTo}
 use Rattle.floats.proofs.Rows.{length-zipTo}
-use Rattle.masks.specs.Starts.{startOf}
-use Rattle.planar.specs.declared.Pose.{Pose}
 use Rattle.planar.specs.declared.Point.{Point}
 use Rattle.planar.specs.declared.Rotation.{Rotation}
 use Rattle.arm.specs.declared.Link.{Link}
@@ -21,14 +19,14 @@ use Rattle.kinematics.specs.Blocks.{row, plusTimes, shifted, columnAdded
 use Rattle.masks.specs.Masks.{isFree, dofsBelow}
 use Rattle.kinematics.specs.Link.{Kept, Inputs, blockFrom, keptOf, rootKept, laterKept, withPlace, withKept}
 use Rattle.kinematics.specs.Pass.{Laws}
-use Rattle.kinematics.specs.State.{State, state, noLink, linkAt, parentOf, lockedOf, inputsOf, keptAt, putKept, keptOps, stateAfter}
+use Rattle.kinematics.specs.State.{State, state, noLink, linkAt, parentOf, inputsOf, keptAt, putKept, keptOps, stateAfter}
 use Rattle.kinematics.proofs.Blocks.{block-same, block-other, block-length, part-length}
 use Rattle.kinematics.proofs.Shift.{row-length}
 use Rattle.kinematics.proofs.Pass.{run-view}
 
 -- ---- a block keeps its size
 
-shifted-size : (s : Point) (b : List Float) → length b ≡ blockSize → length (shifted s b) ≡ blockSize
+pub shifted-size : (s : Point) (b : List Float) → length b ≡ blockSize → length (shifted s b) ≡ blockSize
 unfolding shifted
 shifted-size s b h =
     let x = zipTo (plusTimes (neg (s .y))) (row 0 b) (row 2 b) in
@@ -52,7 +50,7 @@ axis-size locked start axis x y w b = go (isFree locked axis)
     go true = simp length-set
     go false = refl
 
-own-size : (locked start : ℕ) (r : Rotation) (b : List Float) → length (ownAdded locked start r b) ≡ length b
+pub own-size : (locked start : ℕ) (r : Rotation) (b : List Float) → length (ownAdded locked start r b) ≡ length b
 unfolding ownAdded
 own-size locked start r b = simp axis-size
 

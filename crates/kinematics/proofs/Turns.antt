@@ -3,13 +3,13 @@
 use mathlib.Core.Path.{_≡_, refl, sym, ap, ap₂, _∙_, subst}
 use Prim.Native.Nat.{ℕ, zero, suc, min, _+_, _*_, _-_, _≤_, _<_}
 use mathlib.Core.Bool.{Bool, true, false, cond, _&&_}
-use mathlib.Core.List.{List, [], _∷_, _++_, map}
+use mathlib.Core.List.{List, _++_, map}
 use native.Mathlib.Omega.{arith}
 use native.Mathlib.Numerals.{add-one}
 use native.Mathlib.Decide.{decLt}
 use borrow.Author.Tests.{lt-ltb, le-ltb}
 use lib.Dec.{ltb}
-use lib.ListN.{length, getD, set, take, drop, length-replicate, length-set, length-map, List·getD-map}
+use lib.ListN.{length, set, take, drop, length-replicate, length-set, length-map, List·getD-map}
 use lib.Ieee.{Float}
 use Rattle.limits.specs.Limits.{linkLimit, dofLimit, blockSize, tableSize}
 use Rattle.floats.specs.Floats.{zero32, allFinite}
@@ -19,15 +19,15 @@ use Rattle.masks.proofs.Totals.{start-next, start-le}
 use Rattle.multibody_joint.specs.declared.Joint.{Joint}
 use Rattle.arm.specs.declared.Link.{Link}
 use Rattle.kinematics.specs.declared.Posed.{Posed}
-use Rattle.kinematics.specs.Blocks.{part, withPart, zeroBlock, blockAt, withBlock, copiedFrom}
+use Rattle.kinematics.specs.Blocks.{part, zeroBlock, blockAt, withBlock, copiedFrom}
 use Rattle.kinematics.specs.Link.{Kept, Inputs, posedOf, laterPosed, rootPosed, blockFrom, keptOf, rootKept, laterKept, finitePlace, finiteKept, withPlace, withKept, TurnedTo}
-use Rattle.kinematics.specs.Pass.{run, newAt, allTo}
+use Rattle.kinematics.specs.Pass.{run, allTo}
 use Rattle.kinematics.specs.State.{State, state, noLink, linkAt, parentOf, lockedOf, inputsOf, keptAt, putKept, keptOps, resultOf, stateAfter, fineAfter, laid, newBlock, WorkedOut}
 use Rattle.kinematics.proofs.Small.{and-true}
-use Rattle.kinematics.proofs.Pass.{turn-shape, tests-run, stays-good}
+use Rattle.kinematics.proofs.Pass.{turn-shape, tests-run}
 use Rattle.kinematics.proofs.Blocks.{part-length, block-same, block-length, lent-part, with-with}
 use Rattle.kinematics.proofs.Laid.{laid-none, laid-block, laid-more, laid-skip}
-use Rattle.kinematics.proofs.Store.{Good, Shape, laws, blank, after-blank}
+use Rattle.kinematics.proofs.Store.{laws, blank, after-blank}
 
 -- ---- starts, along the links' masks
 

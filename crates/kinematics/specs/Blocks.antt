@@ -1,6 +1,6 @@
 -- Jacobian blocks, by document 01's 'Kinematics': three rows of floats, one after the other, with a column for each degree of freedom.
 use Prim.Native.Nat.{ℕ, _+_, _*_}
-use mathlib.Core.Bool.{Bool, true, false, cond}
+use mathlib.Core.Bool.{Bool, cond}
 use mathlib.Core.List.{List, _++_}
 use lib.ListN.{take, drop, getD, set, replicate}
 use lib.Ieee.{Float, nan, neg}

@@ -5,7 +5,6 @@ use mathlib.Core.Bool.{Bool, true, false, _&&_}
 use mathlib.Core.List.{List}
 use lib.Ieee.{Float}
 use Rattle.floats.specs.Floats.{zero32, one32, allFinite}
-use Rattle.planar.specs.declared.Rotation.{Rotation}
 use Rattle.planar.specs.declared.Pose.{Pose}
 use Rattle.planar.specs.declared.Point.{Point}
 use Rattle.planar.specs.Poses.{rotationOf, translationOf, rotationProduct, placedBy, pointDifference, poseProduct, finitePoint, finitePose}

@@ -1,14 +1,13 @@
 -- What is kept of an arm, poses and shifts in its links and Jacobian blocks in the tables, and the pass that refreshes marked links.
 use mathlib.Core.Path.{_≡_}
 use Prim.Native.Nat.{ℕ, zero, suc}
-use mathlib.Core.Bool.{Bool, true, false, cond, _&&_}
-use mathlib.Core.List.{List, [], _∷_, _++_, map}
+use mathlib.Core.Bool.{Bool, true, false, cond}
+use mathlib.Core.List.{List, [], _++_, map}
 use lib.ListN.{getD, set, drop, replicate}
 use lib.Ieee.{Float, nan}
 use Rattle.limits.specs.Limits.{tableSize}
 use Rattle.floats.specs.Floats.{zero32}
 use Rattle.masks.specs.Starts.{startOf}
-use Rattle.planar.specs.declared.Rotation.{Rotation}
 use Rattle.planar.specs.declared.Pose.{Pose}
 use Rattle.planar.specs.declared.Point.{Point}
 use Rattle.multibody_joint.specs.declared.Joint.{Joint}

@@ -1,7 +1,6 @@
 // Kinematics: a link's world pose, shifts and Jacobian block from what is kept of its parent, and the pass that refreshes marked links.
 // Poses and shifts are kept in the links, Jacobian blocks in lent tables.
 ghost use mathlib.Core.Path.{_≡_};
-ghost use mathlib.Core.Bool.{Bool, true, false};
 ghost use Prim.Native.Nat.{min, _+_, _*_, _≤_, _<_};
 ghost use lib.Dec.{ltb};
 ghost use lib.ListN.{length};
@@ -100,10 +99,11 @@ fn root_posed(joint: Joint, centre: Point) -> Posed
     let world = body_to_parent(joint);
     let c2 = placed(world, translation_of(frame2));
     let c3 = placed(world, centre);
+    let shift23 = difference(c3, c2);
     Posed {
         world,
         shift02: Point { x: 0.0, y: 0.0 },
-        shift23: difference(c3, c2),
+        shift23,
         turn: rotation_product(Rotation { re: 1.0, im: 0.0 }, rotation_of(frame1)),
     }
 }
@@ -321,11 +321,11 @@ pub fn refresh_all(links: [Link; LINKS], n: usize, tables: &mut [f32]) -> Refres
         return Refreshed { fine: false, links };
     }
     let every = [true; LINKS];
-    let mut work = [0.0f32; TABLES];
-    let r = work_out(links, fewer(n, LINKS), every, tables, &mut work);
+    let mut blocks = [0.0f32; TABLES];
+    let r = work_out(links, fewer(n, LINKS), every, tables, &mut blocks);
     if !r.fine {
         return Refreshed { fine: false, links };
     }
-    copy(tables, &work);
+    copy(tables, &blocks);
     r
 }

@@ -10,114 +10,84 @@ use Rattle.limits.specs.Limits.{blockSize}
 use borrow.Author.Needs.{needs}
 use Rattle.kinematics.proofs.copy_parent.Statement.{statement}
 use Rattle.kinematics.proofs.copy_parent.Tie as tie
-use Rattle.kinematics.proofs.copy_parent.Reads as reads
-use Rattle.kinematics.proofs.copy_parent.Lts as lts
-use Rattle.floats.proofs.copy.Reads as copy-reads
-use Rattle.kinematics.proofs.move_block.Reads as move-block-reads
 
--- src/lib.rt:209:14
 mul-to : tie.Need-mul-to
 mul-to c = search needs
 
--- src/lib.rt:210:15
 add-end : tie.Need-add-end
 add-end c = search needs
 
--- src/lib.rt:212:20
 mul-from : tie.Need-mul-from
 mul-from c = search needs
 
--- src/lib.rt:213:24
 add-from-end : tie.Need-add-from-end
 add-from-end c = search needs
 
--- src/lib.rt:215:13
 move-block-requires : tie.Need-move-block-requires
 move-block-requires c κs = search needs
 
--- src/lib.rt:216:13
 same-length : tie.Need-same-length
 same-length c = search needs
 
--- src/lib.rt:216:13
 returns : tie.Need-returns
 unfolding copiedFrom
 returns c = rw (lt-ltb (c .before .before .before .before .before .before .before .before .args .p) (c .before .before .before .before .before .before .before .before .args .j) (c .before .before .before .before .before .if1 .taken), c .before .before .before .before .if2 .taken) (c .before .before .move-block .ensures)
 
--- src/lib.rt:218:14
 mul-copy : tie.Need-mul-copy
 mul-copy c = search needs
 
--- src/lib.rt:218:14
 sub-copy : tie.Need-sub-copy
 sub-copy c = search needs
 
--- src/lib.rt:218:14
 part-copy-start : tie.Need-part-copy-start
 part-copy-start c = search needs
 
--- src/lib.rt:218:14
 part-copy-end : tie.Need-part-copy-end
 part-copy-end c = search needs
 
--- src/lib.rt:218:34
 mul-copy-2 : tie.Need-mul-copy-2
 mul-copy-2 c = search needs
 
--- src/lib.rt:218:34
 sub-copy-2 : tie.Need-sub-copy-2
 sub-copy-2 c = search needs
 
--- src/lib.rt:218:34
 part-copy-start-2 : tie.Need-part-copy-start-2
 part-copy-start-2 c = search needs
 
--- src/lib.rt:218:34
 part-copy-end-2 : tie.Need-part-copy-end-2
 part-copy-end-2 c = search needs
 
--- src/lib.rt:218:9
 copy-requires : tie.Need-copy-requires
 copy-requires c κs = search needs
 
--- src/lib.rt:219:9
 same-length-2 : tie.Need-same-length-2
 same-length-2 c = search needs
 
--- src/lib.rt:219:9
 returns-2 : tie.Need-returns-2
 unfolding copiedFrom
 returns-2 c = rw (lt-ltb (c .before .before .before .before .before .before .before .before .before .args .p) (c .before .before .before .before .before .before .before .before .before .args .j) (c .before .before .before .before .before .before .if1 .taken), c .before .before .before .before .before .if2 .left) (copied-across (c .before .before .before .before .before .before .before .before .before .args .j * blockSize) (c .before .before .before .before .before .before .before .before .before .args .p * blockSize) blockSize (c .before .before .before .before .before .before .before .before .before .args .work .now) (c .before .before .before .before .before .before .before .before .before .args .tables .now) (c .before .before .copy .last .0) (omega (arith, c .before .before .before .before .before .before .before .before .before .pre)) (omega (arith, c .before .before .before .before .before .before .if1 .taken, c .before .before .before .before .before .before .before .before .before .pre)) (c .before .before .copy .ensures))
 
--- src/lib.rt:222:10
 mul-copy-3 : tie.Need-mul-copy-3
 mul-copy-3 c = search needs
 
--- src/lib.rt:222:10
 sub-copy-3 : tie.Need-sub-copy-3
 sub-copy-3 c = search needs
 
--- src/lib.rt:222:10
 part-copy-start-3 : tie.Need-part-copy-start-3
 part-copy-start-3 c = search needs
 
--- src/lib.rt:222:10
 part-copy-end-3 : tie.Need-part-copy-end-3
 part-copy-end-3 c = search needs
 
--- src/lib.rt:222:30
 slice-aggregate-copy : tie.Need-slice-aggregate-copy
 slice-aggregate-copy c = search needs
 
--- src/lib.rt:222:5
 copy-requires-2 : tie.Need-copy-requires-2
 copy-requires-2 c κs = search needs
 
--- src/lib.rt:205:1
 same-length-3 : tie.Need-same-length-3
 same-length-3 c = search needs
 
--- src/lib.rt:205:1
 returns-3 : tie.Need-returns-3
 unfolding copiedFrom
 returns-3 c = rw (le-ltb (c .before .before .before .before .before .before .before .before .args .p) (c .before .before .before .before .before .before .before .before .args .j) (c .before .before .before .before .before .if1 .left)) (copied-in (c .before .before .before .before .before .before .before .before .args .j * blockSize) blockSize (c .before .before .before .before .before .before .before .before .args .work .now) zeroBlock (c .before .before .copy2 .last .0) (omega (arith, c .before .before .before .before .before .before .before .before .pre)) (length-replicate blockSize zero32) (c .before .before .copy2 .ensures))

@@ -11,8 +11,6 @@ use Rattle.limits.specs.Limits.{blockSize}
 use borrow.Author.Needs.{needs}
 use Rattle.kinematics.proofs.move_block.Statement.{statement}
 use Rattle.kinematics.proofs.move_block.Tie as tie
-use Rattle.kinematics.proofs.move_block.Reads as reads
-use Rattle.kinematics.proofs.move_block.Lts as lts
 
 abbrev Inv-loop : tie.InvT-loop
 Inv-loop work₀ from to i₀ work i = (i ≤ blockSize) × (length work ≡ length work₀) × (work ≡ paste work₀ to (part from blockSize work₀) i)
@@ -20,53 +18,41 @@ Inv-loop work₀ from to i₀ work i = (i ≤ blockSize) × (length work ≡ len
 abbrev μ-loop : tie.MeasureT-loop
 μ-loop work₀ from to i₀ work i = blockSize - i
 
--- src/lib.rt:197:5
 loop-holds : tie.Need-loop-holds Inv-loop μ-loop
 loop-holds c = (omega arith, refl, paste-zero (c .args .work .now) (c .args .to) (part (c .args .from) blockSize (c .args .work .now)))
 
--- src/lib.rt:198:29
 add-work : tie.Need-add-work Inv-loop μ-loop
 add-work c = search needs
 
--- src/lib.rt:198:24
 mul-work : tie.Need-mul-work Inv-loop μ-loop
 mul-work c = search needs
 
--- src/lib.rt:198:24
 slice-read-work : tie.Need-slice-read-work Inv-loop μ-loop
 slice-read-work c = search needs
 
--- src/lib.rt:198:14
 add-work-2 : tie.Need-add-work-2 Inv-loop μ-loop
 add-work-2 c = search needs
 
--- src/lib.rt:198:9
 mul-work-2 : tie.Need-mul-work-2 Inv-loop μ-loop
 mul-work-2 c = search needs
 
--- src/lib.rt:198:9
 slice-write-work : tie.Need-slice-write-work Inv-loop μ-loop
 slice-write-work c = search needs
 
--- src/lib.rt:199:9
 add-i : tie.Need-add-i Inv-loop μ-loop
 add-i c = search needs
 
--- src/lib.rt:197:5
 loop-less : tie.Need-loop-less Inv-loop μ-loop
 loop-less c = search needs
 
--- src/lib.rt:197:5
 loop-again : tie.Need-loop-again Inv-loop μ-loop
 loop-again c = (omega arith, length-set (c .before .before .loop .work) (c .before .before .before .args .to + c .before .before .loop .i) _ ∙ c .before .before .loop .inv .1, moved-more (c .before .before .before .args .from) (c .before .before .before .args .to) blockSize (c .before .before .before .args .work .now) (c .before .before .before .pre .0) (c .before .before .before .pre .1) (c .before .before .loop .i) (c .before .loop-test .taken) (c .before .before .loop .work) (c .before .before .loop .inv .2) nan)
 
--- src/lib.rt:192:1
 same-length : tie.Need-same-length Inv-loop μ-loop
 same-length c = search needs
 
--- src/lib.rt:192:1
 returns : tie.Need-returns Inv-loop μ-loop
-returns c = 
+returns c =
     let e : c .before .loop .i ≡ blockSize = omega arith in
     c .before .loop .inv .2
     ∙ ap (λ (i : ℕ). paste (c .before .before .args .work .now) (c .before .before .args .to) (part (c .before .before .args .from) blockSize (c .before .before .args .work .now)) i) e
