@@ -1,0 +1,56 @@
+-- `refresh_marked`: the marked links are worked out, and their blocks alone are written back. Assumes nothing.
+use Rattle.kinematics.proofs.Ends.{marked-no, marked-short, marked-yes}
+use Rattle.kinematics.specs.State.{marked}
+use borrow.Author.Tests.{not-false, not-true}
+use lib.ListN.{length-replicate}
+use native.Mathlib.Omega.{arith}
+use Rattle.floats.specs.Floats.{zero32}
+use Rattle.limits.specs.Limits.{tableSize}
+use borrow.Author.Needs.{needs}
+use Rattle.kinematics.proofs.refresh_marked.Statement.{statement}
+use Rattle.kinematics.proofs.refresh_marked.Tie as tie
+
+returns : tie.Need-returns
+returns c = marked-short (c .before .before .args .links) (c .before .before .args .n) (c .before .before .args .tables .now) (marked (c .before .before .args .marks)) (c .if1 .taken)
+
+fewer-requires : tie.Need-fewer-requires
+fewer-requires c κs = search needs
+
+slice-aggregate-work-out : tie.Need-slice-aggregate-work-out
+slice-aggregate-work-out c = search needs
+
+work-out-requires : tie.Need-work-out-requires
+work-out-requires c κs = (omega (arith, c .before .before .fewer .ensures), (omega (arith, c .before .before .before .if1 .left), length-replicate tableSize zero32))
+
+same-length : tie.Need-same-length
+same-length c = search needs
+
+returns-2 : tie.Need-returns-2
+returns-2 c = marked-no (c .before .before .before .before .before .before .before .before .before .args .links) (c .before .before .before .before .before .before .before .before .before .args .n) (c .before .before .before .before .before .before .before .before .before .args .tables .now) (c .before .before .before .before .before .before .before .before .before .good .0 .1 .0 .1) (omega (arith, c .before .before .before .before .before .before .before .if1 .left)) (c .before .before .before .before .before .before .fewer .result) (c .before .before .before .before .before .before .fewer .ensures) (c .before .before .before .work-out .last .1 .1 .1 .1 .0) (c .before .before .before .work-out .result) (marked (c .before .before .before .before .before .before .before .before .before .args .marks)) (c .before .before .before .work-out .ensures) (not-true (c .before .before .before .work-out .result .fine) (c .if2 .taken))
+
+slice-aggregate-commit : tie.Need-slice-aggregate-commit
+slice-aggregate-commit c = search needs
+
+commit-requires : tie.Need-commit-requires
+commit-requires c κs = (omega (arith, c .before .before .before .before .before .before .before .before .fewer .ensures), (search needs, omega (arith, c .before .before .before .before .before .before .before .before .before .if1 .left)))
+
+same-length-2 : tie.Need-same-length-2
+same-length-2 c = search needs
+
+returns-3 : tie.Need-returns-3
+returns-3 c = marked-yes (c .before .before .before .before .before .before .before .before .before .before .before .before .before .before .args .links) (c .before .before .before .before .before .before .before .before .before .before .before .before .before .before .args .n) (c .before .before .before .before .before .before .before .before .before .before .before .before .before .before .args .tables .now) (c .before .before .before .before .before .before .before .before .before .before .before .before .before .before .good .0 .1 .0 .1) (omega (arith, c .before .before .before .before .before .before .before .before .before .before .before .before .if1 .left)) (c .before .before .before .before .before .before .before .before .before .before .before .fewer .result) (c .before .before .before .before .before .before .before .before .before .before .before .fewer .ensures) (c .before .before .before .before .before .before .before .before .work-out .last .1 .1 .1 .1 .0) (c .before .before .before .before .before .before .before .before .work-out .result) (marked (c .before .before .before .before .before .before .before .before .before .before .before .before .before .before .args .marks)) (c .before .before .before .before .before .before .before .before .work-out .ensures) (not-false (c .before .before .before .before .before .before .before .before .work-out .result .fine) (c .before .before .before .before .before .if2 .left)) _ (c .before .before .commit .ensures)
+
+pub refresh-marked-spec : {M : Type 1} → statement M
+refresh-marked-spec =
+    tie.close
+    (tie.spec
+    returns
+    fewer-requires
+    slice-aggregate-work-out
+    work-out-requires
+    same-length
+    returns-2
+    slice-aggregate-commit
+    commit-requires
+    same-length-2
+    returns-3)

@@ -1,0 +1,6 @@
+pub mod Blocks
+pub mod Link
+pub mod Pass
+pub mod State
+pub mod Answers
+pub mod Promises

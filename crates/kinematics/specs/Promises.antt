@@ -1,0 +1,78 @@
+-- What the pass over marked links promises, over the definitions that the contracts cite.
+use Prim.Native.Nat.{ℕ, _+_, _*_, _≤_, _<_}
+use mathlib.Core.Path.{_≡_}
+use mathlib.Core.Bool.{Bool, true, false}
+use mathlib.Core.List.{List, map}
+use lib.ListN.{length, drop, getD}
+use lib.Ieee.{Float, nan}
+use Rattle.limits.specs.Limits.{linkLimit, dofLimit, blockSize, tableSize}
+use Rattle.floats.specs.Floats.{zero32}
+use Rattle.masks.specs.Masks.{dofsOf}
+use Rattle.masks.specs.Starts.{startOf}
+use Rattle.planar.specs.Poses.{finitePoint}
+use Rattle.arm.specs.declared.Link.{Link}
+use Rattle.kinematics.specs.Blocks.{blockAt, zeroBlock}
+use Rattle.kinematics.specs.declared.Posed.{Posed}
+use Rattle.kinematics.specs.Link.{blockFrom, finiteKept}
+use Rattle.kinematics.specs.Pass.{Closed}
+use Rattle.kinematics.specs.State.{State, state, linkAt, parentOf, lockedOf, keptAt, every, resultOf, stateAfter, fineAfter, cleared}
+
+-- what is kept of link j is what its parent's gives
+abbrev pub Fresh : List Link → List Float → ℕ → Type 0
+Fresh ls t j = keptAt (state ls t) j ≡ resultOf ls (state ls t) j
+
+-- link j and its block are as they were
+abbrev pub Untouched : List Link → List Float → State → ℕ → Type 0
+Untouched ls t s j = (linkAt (s .links) j ≡ linkAt ls j) × (blockAt j (s .tables) ≡ blockAt j t)
+
+-- links in their places, and tables that are long enough, for n links
+pub record Fits (ls : List Link) (n : ℕ) (t : List Float) : Type 0 where
+  pub places : length ls ≡ linkLimit
+  pub few : n ≤ linkLimit
+  pub long : tableSize ≤ length t
+
+-- only what is at or below a changed link is marked: what is below a marked link is marked, unmarked links are fresh and finite, unused blocks are +0
+pub record Ready (ls : List Link) (n : ℕ) (b : ℕ → Bool) (t : List Float) : Type 0 where
+  pub closed : Closed (parentOf ls) b n
+  pub fresh : (j : ℕ) → j < n → b j ≡ false → Fresh ls t j
+  pub finite : (j : ℕ) → j < n → b j ≡ false → finiteKept (keptAt (state ls t) j) ≡ true
+  pub unused : (j : ℕ) → n ≤ j → j < linkLimit → blockAt j t ≡ zeroBlock
+
+-- then the pass over the marked links leaves, bit for bit, what the full pass over cleared tables leaves, and is not finite exactly when that isn't
+abbrev pub LikeFull : Type 0
+LikeFull = (ls : List Link) (n : ℕ) (b : ℕ → Bool) (t : List Float) → Fits ls n t → Ready ls n b t
+    → (stateAfter ls n b t ≡ stateAfter ls n every (cleared t)) × (fineAfter ls n b t ≡ fineAfter ls n every (cleared t))
+
+-- the full pass leaves every link fresh
+abbrev pub AllFresh : Type 0
+AllFresh = (ls : List Link) (n : ℕ) (t : List Float) → Fits ls n t → (j : ℕ) → j < n → keptAt (stateAfter ls n every t) j ≡ resultOf ls (stateAfter ls n every t) j
+
+-- unmarked links and their blocks, links past the first n, and memory past the tables are untouched
+abbrev pub Stays : Type 0
+Stays = (ls : List Link) (n : ℕ) (b : ℕ → Bool) (t : List Float) → Fits ls n t
+    → ((j : ℕ) → j < linkLimit → (j < n → b j ≡ false) → Untouched ls t (stateAfter ls n b t) j) × (drop tableSize (stateAfter ls n b t .tables) ≡ drop tableSize t)
+
+-- parents are no later than their links
+abbrev pub Rising : List Link → ℕ → Type 0
+Rising ls n = (j : ℕ) → j < n → parentOf ls j ≤ j
+
+-- links that agree up to n get the same results, tables and test
+abbrev pub UpTo : Type 0
+UpTo = (ls ls′ : List Link) (n : ℕ) (b : ℕ → Bool) (t : List Float) → Fits ls n t → Fits ls′ n t → Rising ls n → ((j : ℕ) → j < n → linkAt ls j ≡ linkAt ls′ j)
+    → ((j : ℕ) → j < n → linkAt (stateAfter ls n b t .links) j ≡ linkAt (stateAfter ls′ n b t .links) j)
+    × (stateAfter ls n b t .tables ≡ stateAfter ls′ n b t .tables)
+    × (fineAfter ls n b t ≡ fineAfter ls′ n b t)
+
+-- the columns of a block from d on hold +0
+abbrev pub ZeroFrom : ℕ → List Float → Type 0
+ZeroFrom d b = (c : ℕ) → d ≤ c → c < dofLimit → (getD b c nan ≡ zero32) × (getD b (dofLimit + c) nan ≡ zero32) × (getD b (2 * dofLimit + c) nan ≡ zero32)
+
+-- where a link's results are finite: with +0 in the columns of the copied block past the link's own, they stay +0
+abbrev pub ZerosStay : Type 0
+ZerosStay = (p : Posed) (locked start d : ℕ) (b : List Float) → length b ≡ blockSize → start + 3 ≤ dofLimit → start + dofsOf locked ≤ d
+    → finitePoint (p .shift02) ≡ true → finitePoint (p .shift23) ≡ true → ZeroFrom d b → ZeroFrom d (blockFrom p locked start b)
+
+-- so where all is finite the full pass leaves +0 in each block past its link's own columns
+abbrev pub ZerosPast : Type 0
+ZerosPast = (ls : List Link) (n : ℕ) (t : List Float) → Fits ls n t → fineAfter ls n every t ≡ true → (j : ℕ) → j < n
+    → ZeroFrom (startOf (map lockedOf ls) j + dofsOf (linkAt ls j .joint .locked)) (blockAt j (stateAfter ls n every t .tables))
