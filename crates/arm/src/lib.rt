@@ -1,10 +1,31 @@
-// An arm: a tree of links, couplings between their axes, and five rows over its degrees of freedom.
+// An arm: a tree of links, couplings between their axes, and five rows over its degrees of freedom. Lists count up to their counts.
+// Every function here is an inner one: it answers for every arm and refuses nothing.
+ghost use mathlib.Core.Path.{_≡_};
+ghost use mathlib.Core.List.{map};
+ghost use Prim.Native.Nat.{min, _≤_};
+ghost use Rattle.limits.specs.Limits.{linkLimit, dofLimit};
+ghost use Rattle.arm.specs.Arm.{tagOf, parentOf, startAt, dofCountOf, maskAt, rowNumber};
+ghost use Rattle.arm.specs.Edits.{dofAt};
+ghost use Rattle.arm.specs.HandedIn.{isNew, unique, tagsUnique, parentsEarlier, jointMasksFit, jointFinite, linkFinite, angleFits, linkTestsOf, couplingLinksFit, couplingAxesFit, couplingFinite, couplingTestsOf, rootFits, rowFinite, rowsFinite, armRefusal};
+use floats::all_finite;
+use floats::finite;
 use limits::COUPLINGS;
 use limits::DOFS;
 use limits::LINKS;
+use masks::dofs;
+use masks::dofs_below;
+use masks::is_axis;
+use masks::is_mask;
 use multibody_joint::Joint;
 use planar::Point;
 use planar::Pose;
+use planar::is_beyond;
+use planar::is_finite_point;
+use planar::is_finite_pose;
+use planar::is_finite_rotation;
+use refusal::lower;
+use refusal::unless;
+use topology::parents_fit;
 
 // A link, and what is kept of it: its world pose and its shifts.
 #[repr(C)]
@@ -57,4 +78,320 @@ pub struct Arm {
 pub struct Edited {
     pub refusal: u8,
     pub arm: Arm,
+}
+
+// ---- What counts
+
+fn fewer(a: usize, b: usize) -> usize
+    ensures { λ r. ⌜ r ≡ min a b ⌝ }
+{
+    if a < b { a } else { b }
+}
+
+// How many links count: never more than fit.
+pub fn live_links(count: usize) -> usize
+    ensures { λ r. ⌜ r ≡ min count linkLimit ⌝ }
+{
+    fewer(count, LINKS)
+}
+
+fn tags_of(arm: Arm) -> [u32; LINKS]
+    ensures { λ r. ⌜ r ≡ map tagOf (arm .links) ⌝ }
+{
+    let mut tags = [0u32; LINKS];
+    let mut i = 0;
+    while i < LINKS {
+        let l = arm.links[i];
+        tags[i] = l.tag;
+        i += 1;
+    }
+    tags
+}
+
+// The parent of each place for a link, whether it counts or not.
+pub fn parents_of(arm: Arm) -> [u8; LINKS]
+    ensures { λ r. ⌜ r ≡ map parentOf (arm .links) ⌝ }
+{
+    let mut parents = [0u8; LINKS];
+    let mut i = 0;
+    while i < LINKS {
+        let l = arm.links[i];
+        parents[i] = l.parent;
+        i += 1;
+    }
+    parents
+}
+
+// The locked mask of a link; where there is no such link, all is locked.
+pub fn mask_at(arm: Arm, link: usize) -> u8
+    ensures { λ r. ⌜ r ≡ maskAt arm link ⌝ }
+{
+    if link < live_links(arm.link_count) {
+        let l = arm.links[link];
+        return l.joint.locked;
+    }
+    7
+}
+
+// The start of a link: the DoFs of all earlier links.
+pub fn start_of(arm: Arm, link: usize) -> usize
+    ensures { λ r. ⌜ r ≡ startAt arm link ⌝ }
+{
+    let n = fewer(link, live_links(arm.link_count));
+    let mut start: usize = 0;
+    let mut i = 0;
+    while i < n {
+        let l = arm.links[i];
+        start += dofs(l.joint.locked);
+        i += 1;
+    }
+    start
+}
+
+pub fn dof_count(arm: Arm) -> usize
+    ensures { λ r. ⌜ r ≡ dofCountOf arm ⌝ }
+{
+    start_of(arm, LINKS)
+}
+
+// Where in a row the entry of a link's axis stands.
+pub fn dof_at(arm: Arm, link: usize, axis: u8) -> usize
+    ensures { λ r. ⌜ r ≡ dofAt arm link axis ⌝ }
+{
+    start_of(arm, link) + dofs_below(mask_at(arm, link), axis)
+}
+
+pub fn row_number(name: RowName) -> usize
+    ensures { λ r. ⌜ r ≡ rowNumber name ⌝ }
+{
+    match name {
+        RowName::Velocities => 0,
+        RowName::Damping => 1,
+        RowName::Armature => 2,
+        RowName::Frictions => 3,
+        RowName::Accelerations => 4,
+    }
+}
+
+// ---- Tags
+
+// Is it none of the others?
+fn is_new(tag: u32, others: &[u32]) -> bool
+    ensures { λ r. ⌜ r ≡ isNew tag (now (others .entry)) ⌝ }
+{
+    let mut new = true;
+    let mut i = 0;
+    while i < others.len() {
+        new = new & (others[i] != tag);
+        i += 1;
+    }
+    new
+}
+
+// Does no tag stand twice?
+fn all_unique(tags: &[u32]) -> bool
+    ensures { λ r. ⌜ r ≡ unique (now (tags .entry)) ⌝ }
+{
+    let mut ok = true;
+    let mut i = 0;
+    while i < tags.len() {
+        ok = ok & is_new(tags[i], &tags[i + 1..]);
+        i += 1;
+    }
+    ok
+}
+
+fn tags_unique(arm: Arm) -> bool
+    ensures { λ r. ⌜ r ≡ tagsUnique arm ⌝ }
+{
+    let n = live_links(arm.link_count);
+    let tags = tags_of(arm);
+    all_unique(&tags[0..n])
+}
+
+// ---- Links
+
+fn masks_fit(j: Joint) -> bool
+    ensures { λ r. ⌜ r ≡ jointMasksFit j ⌝ }
+{
+    is_mask(j.locked as u32) & is_mask(j.limit as u32) & is_mask(j.motor as u32)
+}
+
+pub fn is_finite_joint(j: Joint) -> bool
+    ensures { λ r. ⌜ r ≡ jointFinite j ⌝ }
+{
+    let coordinates = j.coordinates;
+    let stiffness = j.stiffness;
+    let rest = j.rest;
+    is_finite_pose(j.frame1) & is_finite_pose(j.frame2) & all_finite(&coordinates) & is_finite_rotation(j.rotation)
+        & all_finite(&stiffness) & all_finite(&rest)
+}
+
+pub fn is_finite_link(l: Link) -> bool
+    ensures { λ r. ⌜ r ≡ linkFinite l ⌝ }
+{
+    is_finite_joint(l.joint) & is_finite_point(l.centre) & is_finite_pose(l.world) & is_finite_point(l.shift02)
+        & is_finite_point(l.shift23)
+}
+
+// Does the angle coordinate lie within 256 either way? A locked one too.
+fn angle_fits(j: Joint) -> bool
+    ensures { λ r. ⌜ r ≡ angleFits j ⌝ }
+{
+    let coordinates = j.coordinates;
+    !is_beyond(coordinates[2])
+}
+
+// What is tested of every link that counts.
+struct LinkTests {
+    masks: bool,
+    floats: bool,
+    angles: bool,
+}
+
+fn link_tests(arm: Arm) -> LinkTests
+    ensures { λ r. ⌜ r ≡ linkTestsOf arm ⌝ }
+{
+    let n = live_links(arm.link_count);
+    let mut masks = true;
+    let mut floats = true;
+    let mut angles = true;
+    let mut i = 0;
+    while i < n {
+        let l = arm.links[i];
+        masks = masks & masks_fit(l.joint);
+        floats = floats & is_finite_link(l);
+        angles = angles & angle_fits(l.joint);
+        i += 1;
+    }
+    LinkTests {
+        masks,
+        floats,
+        angles,
+    }
+}
+
+fn parents_earlier(arm: Arm) -> bool
+    ensures { λ r. ⌜ r ≡ parentsEarlier arm ⌝ }
+{
+    let n = live_links(arm.link_count);
+    let parents = parents_of(arm);
+    parents_fit(&parents[0..n])
+}
+
+// A root's locked mask is 7 or 0.
+fn root_fits(arm: Arm) -> bool
+    ensures { λ r. ⌜ r ≡ rootFits arm ⌝ }
+{
+    if arm.link_count == 0 {
+        return true;
+    }
+    let root = arm.links[0];
+    (root.joint.locked == 7) | (root.joint.locked == 0)
+}
+
+// ---- Couplings
+
+fn links_fit(c: Coupling, n: usize) -> bool
+    ensures { λ r. ⌜ r ≡ couplingLinksFit n c ⌝ }
+{
+    ((c.link1 as usize) < n) & ((c.link2 as usize) < n)
+}
+
+fn axes_fit(c: Coupling) -> bool
+    ensures { λ r. ⌜ r ≡ couplingAxesFit c ⌝ }
+{
+    is_axis(c.axis1 as u32) & is_axis(c.axis2 as u32)
+}
+
+fn is_finite_coupling(c: Coupling) -> bool
+    ensures { λ r. ⌜ r ≡ couplingFinite c ⌝ }
+{
+    finite(c.coefficient) & finite(c.offset)
+}
+
+// What is tested of every coupling that counts.
+struct CouplingTests {
+    links: bool,
+    axes: bool,
+    floats: bool,
+}
+
+fn coupling_tests(arm: Arm) -> CouplingTests
+    ensures { λ r. ⌜ r ≡ couplingTestsOf arm ⌝ }
+{
+    let n = fewer(arm.coupling_count, COUPLINGS);
+    let mut links = true;
+    let mut axes = true;
+    let mut floats = true;
+    let mut i = 0;
+    while i < n {
+        let c = arm.couplings[i];
+        links = links & links_fit(c, arm.link_count);
+        axes = axes & axes_fit(c);
+        floats = floats & is_finite_coupling(c);
+        i += 1;
+    }
+    CouplingTests {
+        links,
+        axes,
+        floats,
+    }
+}
+
+// ---- Rows
+
+fn is_finite_row(row: Row, n: usize) -> bool
+    requires { ⌜ n ≤ dofLimit ⌝ }
+    ensures { λ r. ⌜ r ≡ rowFinite n row ⌝ }
+{
+    let entries = row.entries;
+    all_finite(&entries[0..n])
+}
+
+// Is every row finite up to the DoF count?
+fn rows_finite(arm: Arm) -> bool
+    ensures { λ r. ⌜ r ≡ rowsFinite arm ⌝ }
+{
+    let n = dof_count(arm);
+    let mut ok = true;
+    let mut i = 0;
+    while i < 5 {
+        let row = arm.rows[i];
+        ok = ok & is_finite_row(row, n);
+        i += 1;
+    }
+    ok
+}
+
+// ---- The arm handed in
+
+// Rules 2 to 5, 7 and 9: the lowest that an arm breaks.
+pub fn arm_refusal(arm: Arm) -> u8
+    ensures { λ r. ⌜ r ≡ armRefusal arm ⌝ }
+{
+    let links = link_tests(arm);
+    let couplings = coupling_tests(arm);
+    lower(
+        unless(
+            (arm.link_count <= LINKS) & (arm.coupling_count <= COUPLINGS),
+            2,
+        ),
+        lower(
+            unless(tags_unique(arm), 3),
+            lower(
+                unless(parents_earlier(arm) & couplings.links, 4),
+                lower(
+                    unless(links.masks & root_fits(arm) & couplings.axes, 5),
+                    lower(
+                        unless(
+                            links.floats & couplings.floats & rows_finite(arm),
+                            7,
+                        ),
+                        unless(links.angles, 9),
+                    ),
+                ),
+            ),
+        ),
+    )
 }

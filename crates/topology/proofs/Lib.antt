@@ -6,3 +6,5 @@ pub mod Written
 pub mod Pass
 pub mod Mapped
 pub mod Refused
+pub mod Above
+pub mod Theorems

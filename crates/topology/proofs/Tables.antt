@@ -61,10 +61,10 @@ filled-all f n j l t none =
     at i h = elim (decLt i j) [
       | yes q ↦ filled-at f (replicate n false) j l i false t q
       | no q ↦
-        let e : j + (i - j) ≡ i = omega arith in
-        let mine : getD (drop j l) (i - j) false ≡ getD l i false = getD-drop j l (i - j) false ∙ ap (λ (k : ℕ). getD l k false) e in
-        let made : getD (drop j (replicate n false)) (i - j) false ≡ false = getD-drop j (replicate n false) (i - j) false ∙ rw e (getD-replicate n i false false h) in
-        sym mine ∙ ap (λ (m : List Bool). getD m (i - j) false) (t .rest) ∙ made ∙ sym (none i (omega arith) h)
+          let e : j + (i - j) ≡ i = omega arith in
+          let mine : getD (drop j l) (i - j) false ≡ getD l i false = getD-drop j l (i - j) false ∙ ap (λ (k : ℕ). getD l k false) e in
+          let made : getD (drop j (replicate n false)) (i - j) false ≡ false = getD-drop j (replicate n false) (i - j) false ∙ rw e (getD-replicate n i false false h) in
+          sym mine ∙ ap (λ (m : List Bool). getD m (i - j) false) (t .rest) ∙ made ∙ sym (none i (omega arith) h)
     ]
 
 -- ---- tests

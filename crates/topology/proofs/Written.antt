@@ -57,8 +57,8 @@ module _ (ps : List ℕ) where
     next-branch g = elim (decLt (parentOf ps j) j) [
       | yes p ↦ (omega arith, snoc-front (take m b) (branch ps (parentOf ps j)) _ j (parted ∙ branch-more ps j l p))
       | no p ↦
-        let z = ap length (snoc-front (take m b) [] _ j (parted ∙ branch-alone ps j l (omega arith))) in
-        absurd (omega (arith, length-take-le m b (omega arith)))
+          let z = ap length (snoc-front (take m b) [] _ j (parted ∙ branch-alone ps j l (omega arith))) in
+          absurd (omega (arith, length-take-le m b (omega arith)))
     ]
 
   -- a turn of the loop
@@ -76,9 +76,9 @@ module _ (ps : List ℕ) where
         link = λ g. next-branch b m j h l e g .0;
         next = λ g. next-branch b m j h l e g .1;
         behind =
-          drop-cons (set to m j) m 0 (rw length-set below)
-          ∙ ap₂ _∷_ (getD-set-same to m j 0 below ∙ sym (this-link b m j h l e)) (drop-set-lt (suc m) to m j (omega arith) ∙ rw s at (w .behind))
-          ∙ rw (drop-cons b m 0 h);
+            drop-cons (set to m j) m 0 (rw length-set below)
+            ∙ ap₂ _∷_ (getD-set-same to m j 0 below ∙ sym (this-link b m j h l e)) (drop-set-lt (suc m) to m j (omega arith) ∙ rw s at (w .behind))
+            ∙ rw (drop-cons b m 0 h);
       }
 
   pub written-all : (b to₀ : List ℕ) (n at j : ℕ) (to : List ℕ) → n ≡ length b → at ≡ 0 → Written ps b to₀ at j to → to ≡ b ++ drop n to₀

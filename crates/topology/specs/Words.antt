@@ -1,5 +1,5 @@
 -- The words of the theorems about branches, marks and splits.
-use Prim.Native.Nat.{ℕ, zero, suc, _-_, _<_}
+use Prim.Native.Nat.{ℕ, zero, suc, _<_}
 use mathlib.Core.Path.{_≡_}
 use mathlib.Core.Bool.{Bool, true, false, cond}
 use mathlib.Core.List.{List, [], _∷_, _++_}
@@ -10,10 +10,10 @@ use Rattle.topology.specs.Above.{AtOrAbove}
 use Rattle.topology.specs.Parents.{parentOf}
 use Rattle.topology.specs.Split.{survives, isHead, rank, partOf, isIn, numberOf}
 
--- b goes from the root to link j: the first is 0, the last is j, each next one's parent is the one before
+-- b goes from the root to link j: it starts with 0 and ends with j, and each next one's parent is the one before
 pub record FromRoot (par : ℕ → ℕ) (b : List ℕ) (j : ℕ) : Type 0 where
-  pub first : getD b 0 j ≡ 0
-  pub last : getD b (length b - 1) 0 ≡ j
+  pub starts : (rest : List ℕ) × (b ≡ 0 ∷ rest)
+  pub ends : (front : List ℕ) × (b ≡ front ++ (j ∷ []))
   pub next : (i : ℕ) → suc i < length b → par (getD b (suc i) 0) ≡ getD b i 0
 
 -- h is the nearest head at or above link j: every head there is at or above h

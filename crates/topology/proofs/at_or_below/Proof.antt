@@ -13,9 +13,6 @@ use native.Mathlib.Omega.{arith}
 use borrow.Author.Needs.{needs}
 use Rattle.topology.proofs.at_or_below.Statement.{statement}
 use Rattle.topology.proofs.at_or_below.Tie as tie
-use Rattle.topology.proofs.at_or_below.Reads as reads
-use Rattle.topology.proofs.at_or_below.Lts as lts
-use Rattle.topology.proofs.fewer.Reads as fewer-reads
 
 abbrev Inv-loop : tie.InvT-loop
 Inv-loop parents link n marks₀ j₀ marks j = (n ≡ min (length parents) linkLimit) × (j ≤ n) × Filled (atOrBelow parents link) (replicate linkLimit false) j marks
@@ -23,45 +20,35 @@ Inv-loop parents link n marks₀ j₀ marks j = (n ≡ min (length parents) link
 abbrev μ-loop : tie.MeasureT-loop
 μ-loop parents link n marks₀ j₀ marks j = n - j
 
--- src/lib.rt:126:9
 fewer-requires : tie.Need-fewer-requires Inv-loop μ-loop
 fewer-requires c κs = search needs
 
--- src/lib.rt:129:5
 loop-holds : tie.Need-loop-holds Inv-loop μ-loop
 loop-holds c = (c .fewer .ensures, omega arith, filled-none (atOrBelow (c .before .before .args .parents .now) (c .before .before .args .link)) (replicate linkLimit false))
 
--- src/lib.rt:130:17
 shared-slice-read-p : tie.Need-shared-slice-read-p Inv-loop μ-loop
 shared-slice-read-p c = search needs
 
--- src/lib.rt:130:17
 cast-p : tie.Need-cast-p Inv-loop μ-loop
 cast-p c = omega (arith, c .shared-slice-known2 .given (c .before .before .loop .j))
 
--- src/lib.rt:132:38
 array-read-marks : tie.Need-array-read-marks Inv-loop μ-loop
 array-read-marks c = search needs
 
--- src/lib.rt:132:13
 array-write-marks : tie.Need-array-write-marks Inv-loop μ-loop
 array-write-marks c = search needs
 
--- src/lib.rt:134:13
 array-write-marks-2 : tie.Need-array-write-marks-2 Inv-loop μ-loop
 array-write-marks-2 c = search needs
 
--- src/lib.rt:136:9
 add-j : tie.Need-add-j Inv-loop μ-loop
 add-j c = search needs
 
--- src/lib.rt:129:5
 loop-less : tie.Need-loop-less Inv-loop μ-loop
 loop-less c = search needs
 
--- src/lib.rt:129:5
 loop-again : tie.Need-loop-again Inv-loop μ-loop
-loop-again c = 
+loop-again c =
     let ps = c .before .before .before .before .before .before .args .parents .now in
     let i = c .before .before .before .before .before .before .args .link in
     let j = c .before .before .before .loop .j in
@@ -76,7 +63,6 @@ loop-again c =
           (c .if1 .came),
     )
 
--- src/lib.rt:123:1
 returns : tie.Need-returns Inv-loop μ-loop
 returns c = marks-full (c .before .before .before .before .args .parents .now) (c .before .before .before .before .args .link) _ (c .before .loop .j) (c .before .loop .marks) (c .before .loop .inv .0) (omega arith) (c .before .loop .inv .2)
 

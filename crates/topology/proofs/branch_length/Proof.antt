@@ -8,8 +8,6 @@ use native.Mathlib.Omega.{arith}
 use borrow.Author.Needs.{needs}
 use Rattle.topology.proofs.branch_length.Statement.{statement}
 use Rattle.topology.proofs.branch_length.Tie as tie
-use Rattle.topology.proofs.branch_length.Reads as reads
-use Rattle.topology.proofs.branch_length.Lts as lts
 
 abbrev Inv-loop : tie.InvT-loop
 Inv-loop parents link j₀ p₀ n₀ j p n = (j < length parents) × (p ≡ parentOf parents j) × (n + j ≤ link + 1) × (link < length parents) × (length (branch parents link) + 1 ≡ n + length (branch parents j))
@@ -17,43 +15,33 @@ Inv-loop parents link j₀ p₀ n₀ j p n = (j < length parents) × (p ≡ pare
 abbrev μ-loop : tie.MeasureT-loop
 μ-loop parents link j₀ p₀ n₀ j p n = j
 
--- src/lib.rt:71:9
 returns : tie.Need-returns Inv-loop μ-loop
 returns c = rw (branch-none (c .before .args .parents .now) (c .before .args .link) (c .if1 .taken))
 
--- src/lib.rt:74:17
 shared-slice-read-p : tie.Need-shared-slice-read-p Inv-loop μ-loop
 shared-slice-read-p c = search needs
 
--- src/lib.rt:74:17
 cast-p : tie.Need-cast-p Inv-loop μ-loop
 cast-p c = omega (arith, c .shared-slice-known .given (c .before .before .args .link))
 
--- src/lib.rt:76:5
 loop-holds : tie.Need-loop-holds Inv-loop μ-loop
 loop-holds c = search needs
 
--- src/lib.rt:78:13
 shared-slice-read-p-2 : tie.Need-shared-slice-read-p-2 Inv-loop μ-loop
 shared-slice-read-p-2 c = search needs
 
--- src/lib.rt:78:13
 cast-p-2 : tie.Need-cast-p-2 Inv-loop μ-loop
 cast-p-2 c = omega (arith, c .shared-slice-known2 .given (c .before .before .loop .p))
 
--- src/lib.rt:79:9
 add-n : tie.Need-add-n Inv-loop μ-loop
 add-n c = search needs
 
--- src/lib.rt:76:5
 loop-less : tie.Need-loop-less Inv-loop μ-loop
 loop-less c = search needs
 
--- src/lib.rt:76:5
 loop-again : tie.Need-loop-again Inv-loop μ-loop
 loop-again c = let l = branch-longer (c .before .before .before .before .before .args .parents .now) (c .before .before .loop .j) (c .before .before .loop .inv .0) (omega arith) in let e = ap (λ (k : ℕ). length (branch (c .before .before .before .before .before .args .parents .now) k)) (c .before .before .loop .inv .1) in (omega arith, refl, omega arith, omega arith, omega arith)
 
--- src/lib.rt:67:1
 returns-2 : tie.Need-returns-2 Inv-loop μ-loop
 returns-2 c = let l = ap length (branch-alone (c .before .before .before .before .args .parents .now) (c .before .loop .j) (c .before .loop .inv .0) (omega arith)) in omega arith
 

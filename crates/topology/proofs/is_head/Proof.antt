@@ -2,22 +2,16 @@
 use borrow.Author.Needs.{needs}
 use Rattle.topology.proofs.is_head.Statement.{statement}
 use Rattle.topology.proofs.is_head.Tie as tie
-use Rattle.topology.proofs.is_head.Reads as reads
-use Rattle.topology.proofs.is_head.Lts as lts
 
--- src/lib.rt:169:23
 enum-known-s : tie.Need-enum-known-s
 enum-known-s c = search needs
 
--- src/lib.rt:170:20
 enum-known-s-2 : tie.Need-enum-known-s-2
 enum-known-s-2 c = search needs
 
--- src/lib.rt:165:1
 returns : tie.Need-returns
 returns c = cc
 
--- src/lib.rt:165:1
 returns-2 : tie.Need-returns-2
 returns-2 c = cc
 

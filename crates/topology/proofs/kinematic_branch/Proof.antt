@@ -5,35 +5,24 @@ use borrow.Author.Tests.{leb-true}
 use borrow.Author.Needs.{needs}
 use Rattle.topology.proofs.kinematic_branch.Statement.{statement}
 use Rattle.topology.proofs.kinematic_branch.Tie as tie
-use Rattle.topology.proofs.kinematic_branch.Reads as reads
-use Rattle.topology.proofs.kinematic_branch.Lts as lts
-use Rattle.topology.proofs.branch_length.Reads as branch-length-reads
-use Rattle.topology.proofs.refusal_of.Reads as refusal-of-reads
-use Rattle.topology.proofs.write_branch.Reads as write-branch-reads
 
--- src/lib.rt:104:9
 branch-length-requires : tie.Need-branch-length-requires
 branch-length-requires c κs = search needs
 
--- src/lib.rt:105:9
 refusal-of-requires : tie.Need-refusal-of-requires
 refusal-of-requires c κs = search needs
 
--- src/lib.rt:107:9
 returns : tie.Need-returns
 returns c = branch-refused (c .before .before .before .before .before .args .parents .now) (c .before .before .before .before .before .args .link) (c .before .before .before .before .before .args .to .now) (c .before .before .branch-length .result) (c .before .refusal-of .result) (c .before .before .branch-length .ensures) (c .before .refusal-of .ensures) (c .if1 .taken)
 
--- src/lib.rt:109:5
 write-branch-requires : tie.Need-write-branch-requires
-write-branch-requires c κs = 
+write-branch-requires c κs =
     let a = accepted (c .before .before .before .before .before .before .args .parents .now) (c .before .before .before .before .before .before .args .link) _ (c .before .before .refusal-of .result) (c .before .before .refusal-of .ensures) (c .before .if1 .left) in
     (a .few, (c .before .before .before .branch-length .ensures, leb-true _ _ (a .room)))
 
--- src/lib.rt:101:1
 same-length : tie.Need-same-length
 same-length c = search needs
 
--- src/lib.rt:101:1
 returns-2 : tie.Need-returns-2
 returns-2 c = branch-done (c .before .before .before .before .before .before .before .before .before .args .parents .now) (c .before .before .before .before .before .before .before .before .before .args .link) (c .before .before .before .before .before .before .before .before .before .args .to .now) (c .before .before .before .before .before .before .branch-length .result) (c .before .before .before .before .before .refusal-of .result) (c .before .before .before .before .before .before .branch-length .ensures) (c .before .before .before .before .before .refusal-of .ensures) (c .before .before .before .before .if1 .left) _ (c .before .before .write-branch .ensures)
 

@@ -2,14 +2,10 @@
 use Rattle.topology.proofs.Fitting.{first, later}
 use Rattle.topology.proofs.parent_fits.Statement.{statement}
 use Rattle.topology.proofs.parent_fits.Tie as tie
-use Rattle.topology.proofs.parent_fits.Reads as reads
-use Rattle.topology.proofs.parent_fits.Lts as lts
 
--- src/lib.rt:31:1
 returns : tie.Need-returns
 returns c = first _ _ (c .if1 .taken)
 
--- src/lib.rt:31:1
 returns-2 : tie.Need-returns-2
 returns-2 c = later _ _ (c .if1 .left)
 

@@ -7,9 +7,6 @@ use native.Mathlib.Omega.{arith}
 use borrow.Author.Needs.{needs}
 use Rattle.topology.proofs.parents_fit.Statement.{statement}
 use Rattle.topology.proofs.parents_fit.Tie as tie
-use Rattle.topology.proofs.parents_fit.Reads as reads
-use Rattle.topology.proofs.parents_fit.Lts as lts
-use Rattle.topology.proofs.parent_fits.Reads as parent-fits-reads
 
 abbrev Inv-loop : tie.InvT-loop
 Inv-loop parents fit₀ j₀ fit j = (j ≤ length parents) × (fit ≡ fitTo parents j)
@@ -17,35 +14,27 @@ Inv-loop parents fit₀ j₀ fit j = (j ≤ length parents) × (fit ≡ fitTo pa
 abbrev μ-loop : tie.MeasureT-loop
 μ-loop parents fit₀ j₀ fit j = length parents - j
 
--- src/lib.rt:43:5
 loop-holds : tie.Need-loop-holds Inv-loop μ-loop
 loop-holds c = (omega arith, fit-none (c .before .args .parents .now))
 
--- src/lib.rt:44:36
 shared-slice-read-parent-fits : tie.Need-shared-slice-read-parent-fits Inv-loop μ-loop
 shared-slice-read-parent-fits c = search needs
 
--- src/lib.rt:44:36
 cast-parent-fits : tie.Need-cast-parent-fits Inv-loop μ-loop
 cast-parent-fits c = omega (arith, c .before .before .before .shared-slice-known .given (c .before .before .loop .j))
 
--- src/lib.rt:44:21
 parent-fits-requires : tie.Need-parent-fits-requires Inv-loop μ-loop
 parent-fits-requires c κs = search needs
 
--- src/lib.rt:45:9
 add-j : tie.Need-add-j Inv-loop μ-loop
 add-j c = search needs
 
--- src/lib.rt:43:5
 loop-less : tie.Need-loop-less Inv-loop μ-loop
 loop-less c = search needs
 
--- src/lib.rt:43:5
 loop-again : tie.Need-loop-again Inv-loop μ-loop
 loop-again c = (omega arith, fit-more (c .before .before .before .before .before .args .parents .now) (c .before .before .before .loop .j) _ _ (c .before .before .before .loop .inv .1) (c .parent-fits .ensures))
 
--- src/lib.rt:38:1
 returns : tie.Need-returns Inv-loop μ-loop
 returns c = fit-all (c .before .before .before .args .parents .now) (c .before .loop .j) _ (c .before .loop .inv .1) (omega arith)
 

@@ -11,10 +11,6 @@ use Rattle.limits.specs.Limits.{linkLimit}
 use borrow.Author.Needs.{needs}
 use Rattle.topology.proofs.parts_of.Statement.{statement}
 use Rattle.topology.proofs.parts_of.Tie as tie
-use Rattle.topology.proofs.parts_of.Reads as reads
-use Rattle.topology.proofs.parts_of.Lts as lts
-use Rattle.topology.proofs.is_head.Reads as is-head-reads
-use Rattle.topology.proofs.is_survivor.Reads as is-survivor-reads
 
 abbrev Inv-loop : tie.InvT-loop
 Inv-loop parents s of₀ count₀ j₀ of count j = (j ≤ length parents) × Passed parents s (replicate linkLimit 0) j of count
@@ -22,67 +18,53 @@ Inv-loop parents s of₀ count₀ j₀ of count j = (j ≤ length parents) × Pa
 abbrev μ-loop : tie.MeasureT-loop
 μ-loop parents s of₀ count₀ j₀ of count j = length parents - j
 
--- src/lib.rt:189:5
 loop-holds : tie.Need-loop-holds Inv-loop μ-loop
 loop-holds c = (omega arith, passed-none (c .before .args .parents .now) (c .before .args .s) (replicate linkLimit 0))
 
--- src/lib.rt:190:17
 shared-slice-read-p : tie.Need-shared-slice-read-p Inv-loop μ-loop
 shared-slice-read-p c = search needs
 
--- src/lib.rt:190:17
 cast-p : tie.Need-cast-p Inv-loop μ-loop
 cast-p c = omega (arith, c .shared-slice-known2 .given (c .before .before .loop .j))
 
--- src/lib.rt:191:12
 is-head-requires : tie.Need-is-head-requires Inv-loop μ-loop
 is-head-requires c κs = search needs
 
--- src/lib.rt:192:21
 cast-of : tie.Need-cast-of Inv-loop μ-loop
 cast-of c = omega (arith, rank-le (c .before .before .before .before .before .before .args .parents .now) (c .before .before .before .before .before .before .args .s) (c .before .before .before .before .loop .j), c .before .before .before .before .loop .inv .1 .counted, c .before .before .before .before .before .before .pre .0)
 
--- src/lib.rt:192:13
 array-write-of : tie.Need-array-write-of Inv-loop μ-loop
 array-write-of c = omega (arith, c .before .before .before .before .before .before .pre .0)
 
--- src/lib.rt:193:13
 add-count : tie.Need-add-count Inv-loop μ-loop
 add-count c = omega (arith, rank-le (c .before .before .before .before .before .before .args .parents .now) (c .before .before .before .before .before .before .args .s) (c .before .before .before .before .loop .j), c .before .before .before .before .loop .inv .1 .counted)
 
--- src/lib.rt:194:19
 is-survivor-requires : tie.Need-is-survivor-requires Inv-loop μ-loop
 is-survivor-requires c κs = search needs
 
--- src/lib.rt:195:21
 array-read-of : tie.Need-array-read-of Inv-loop μ-loop
 unfolding isHead
-array-read-of c = 
+array-read-of c =
     let e = sym (c .before .before .before .is-head .ensures) ∙ c .before .before .if1 .left in
     let a = sym (c .before .is-survivor .ensures) ∙ c .if2 .taken in
     let pre = c .before .before .before .before .before .before .before .before .pre in
     omega (arith, parent-earlier (c .before .before .before .before .before .before .before .before .args .parents .now) (c .before .before .before .before .before .before .before .before .args .s) (pre .1) (c .before .before .before .before .before .before .loop .j) (omega arith) a e, pre .0)
 
--- src/lib.rt:195:13
 array-write-of-2 : tie.Need-array-write-of-2 Inv-loop μ-loop
 array-write-of-2 c = omega (arith, c .before .before .before .before .before .before .before .before .pre .0)
 
--- src/lib.rt:197:13
 array-write-of-3 : tie.Need-array-write-of-3 Inv-loop μ-loop
 array-write-of-3 c = omega (arith, c .before .before .before .before .before .before .before .before .pre .0)
 
--- src/lib.rt:199:9
 add-j : tie.Need-add-j Inv-loop μ-loop
 add-j c = search needs
 
--- src/lib.rt:189:5
 loop-less : tie.Need-loop-less Inv-loop μ-loop
 loop-less c = search needs
 
--- src/lib.rt:189:5
 loop-again : tie.Need-loop-again Inv-loop μ-loop
 unfolding isHead
-loop-again c = 
+loop-again c =
     let k = c .before .before .before .before in
     let start = k .before .before in
     let ps = start .args .parents .now in
@@ -103,7 +85,6 @@ loop-again c =
           (c .if1 .came),
     )
 
--- src/lib.rt:181:1
 returns : tie.Need-returns Inv-loop μ-loop
 returns c = passed-all (c .before .before .before .args .parents .now) (c .before .before .before .args .s) (replicate linkLimit 0) (c .before .loop .j) (c .before .loop .of) (c .before .loop .count) (c .before .loop .inv .1) (omega arith)
 

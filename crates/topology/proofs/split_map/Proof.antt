@@ -11,44 +11,31 @@ use native.Mathlib.Omega.{arith}
 use borrow.Author.Needs.{needs}
 use Rattle.topology.proofs.split_map.Statement.{statement}
 use Rattle.topology.proofs.split_map.Tie as tie
-use Rattle.topology.proofs.split_map.Reads as reads
-use Rattle.topology.proofs.split_map.Lts as lts
-use Rattle.topology.proofs.link_of.Reads as link-of-reads
-use Rattle.topology.proofs.parts_of.Reads as parts-of-reads
-use Rattle.topology.proofs.refusal_of.Reads as refusal-of-reads
-use Rattle.topology.proofs.write_map.Reads as write-map-reads
 
--- src/lib.rt:232:39
 link-of-requires : tie.Need-link-of-requires
 link-of-requires c κs = search needs
 
--- src/lib.rt:232:9
 refusal-of-requires : tie.Need-refusal-of-requires
 refusal-of-requires c κs = search needs
 
--- src/lib.rt:234:9
 returns : tie.Need-returns
 returns c = split-refused (c .before .before .before .before .before .args .parents .now) (c .before .before .before .before .before .args .s) (c .before .before .before .before .before .args .map .now) (c .before .before .link-of .result) (c .before .refusal-of .result) (c .before .before .link-of .ensures) (c .before .refusal-of .ensures) (c .if1 .taken)
 
--- src/lib.rt:236:9
 parts-of-requires : tie.Need-parts-of-requires
-parts-of-requires c κs = 
+parts-of-requires c κs =
     let a = split-accepted (c .before .before .before .before .before .args .parents .now) (c .before .before .before .before .before .args .s) (c .before .before .before .before .before .args .map .now) (c .before .before .link-of .result) (c .before .refusal-of .result) (c .before .before .link-of .ensures) (c .before .refusal-of .ensures) (c .if1 .left) in
     (a .few, a .fit)
 
--- src/lib.rt:238:5
 write-map-requires : tie.Need-write-map-requires
-write-map-requires c κs = 
+write-map-requires c κs =
     let a = split-accepted (c .before .before .before .before .before .before .before .before .args .parents .now) (c .before .before .before .before .before .before .before .before .args .s) (c .before .before .before .before .before .before .before .before .args .map .now) (c .before .before .before .before .before .link-of .result) (c .before .before .before .before .refusal-of .result) (c .before .before .before .before .before .link-of .ensures) (c .before .before .before .before .refusal-of .ensures) (c .before .before .before .if1 .left) in
     (a .few, leb-true _ _ (a .room))
 
--- src/lib.rt:228:1
 same-length : tie.Need-same-length
 same-length c = search needs
 
--- src/lib.rt:228:1
 returns-2 : tie.Need-returns-2
-returns-2 c = 
+returns-2 c =
     let ps = c .before .before .before .before .before .before .before .before .before .before .before .args .parents .now in
     let a = split-accepted (c .before .before .before .before .before .before .before .before .before .before .before .args .parents .now) (c .before .before .before .before .before .before .before .before .before .before .before .args .s) (c .before .before .before .before .before .before .before .before .before .before .before .args .map .now) (c .before .before .before .before .before .before .before .before .link-of .result) (c .before .before .before .before .before .before .before .refusal-of .result) (c .before .before .before .before .before .before .before .before .link-of .ensures) (c .before .before .before .before .before .before .before .refusal-of .ensures) (c .before .before .before .before .before .before .if1 .left) in
     let parts = c .before .before .before .before .before .parts-of .ensures in

@@ -6,8 +6,6 @@ use native.Mathlib.Omega.{arith}
 use borrow.Author.Needs.{needs}
 use Rattle.topology.proofs.write_branch.Statement.{statement}
 use Rattle.topology.proofs.write_branch.Tie as tie
-use Rattle.topology.proofs.write_branch.Reads as reads
-use Rattle.topology.proofs.write_branch.Lts as lts
 
 abbrev Inv-loop : tie.InvT-loop
 Inv-loop parents link n to₀ j₀ at₀ to j at = Written parents (branch parents link) to₀ at j to
@@ -15,43 +13,33 @@ Inv-loop parents link n to₀ j₀ at₀ to j at = Written parents (branch paren
 abbrev μ-loop : tie.MeasureT-loop
 μ-loop parents link n to₀ j₀ at₀ to j at = at
 
--- src/lib.rt:93:5
 loop-holds : tie.Need-loop-holds Inv-loop μ-loop
 loop-holds c = written-none (c .args .parents .now) (c .args .link) (c .args .n) (c .args .to .now) (c .pre .1 .0)
 
--- src/lib.rt:94:9
 sub-at : tie.Need-sub-at Inv-loop μ-loop
 sub-at c = search needs
 
--- src/lib.rt:95:18
 cast-to : tie.Need-cast-to Inv-loop μ-loop
 cast-to c = omega (arith, c .before .before .pre .0, c .before .loop .inv .link (omega arith))
 
--- src/lib.rt:95:9
 slice-write-to : tie.Need-slice-write-to Inv-loop μ-loop
 slice-write-to c = omega (arith, c .before .loop .inv .within, c .before .loop .inv .same-length, c .before .before .pre .1 .0, c .before .before .pre .1 .1)
 
--- src/lib.rt:96:13
 shared-slice-read-j : tie.Need-shared-slice-read-j Inv-loop μ-loop
 shared-slice-read-j c = c .before .before .loop .inv .link (omega arith)
 
--- src/lib.rt:96:13
 cast-j : tie.Need-cast-j Inv-loop μ-loop
 cast-j c = omega (arith, c .shared-slice-known .given (c .before .before .loop .j))
 
--- src/lib.rt:93:5
 loop-less : tie.Need-loop-less Inv-loop μ-loop
 loop-less c = search needs
 
--- src/lib.rt:93:5
 loop-again : tie.Need-loop-again Inv-loop μ-loop
 loop-again c = written-more (c .before .before .before .args .parents .now) (branch (c .before .before .before .args .parents .now) (c .before .before .before .args .link)) (c .before .before .before .args .to .now) (c .before .before .loop .at) (c .before .before .loop .at - 1) (c .before .before .loop .j) (c .before .before .loop .to) (omega arith) (omega (arith, c .before .before .before .pre .1 .0, c .before .before .before .pre .1 .1)) (c .before .before .loop .inv)
 
--- src/lib.rt:85:1
 same-length : tie.Need-same-length Inv-loop μ-loop
 same-length c = c .before .loop .inv .same-length
 
--- src/lib.rt:85:1
 returns : tie.Need-returns Inv-loop μ-loop
 returns c = written-all (c .before .before .args .parents .now) (branch (c .before .before .args .parents .now) (c .before .before .args .link)) (c .before .before .args .to .now) (c .before .before .args .n) (c .before .loop .at) (c .before .loop .j) (c .before .loop .to) (c .before .before .pre .1 .0) (omega arith) (c .before .loop .inv)
 

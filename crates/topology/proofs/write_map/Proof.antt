@@ -9,8 +9,6 @@ use native.Mathlib.Omega.{arith}
 use borrow.Author.Needs.{needs}
 use Rattle.topology.proofs.write_map.Statement.{statement}
 use Rattle.topology.proofs.write_map.Tie as tie
-use Rattle.topology.proofs.write_map.Reads as reads
-use Rattle.topology.proofs.write_map.Lts as lts
 
 abbrev Inv-loop : tie.InvT-loop
 Inv-loop n map₀ of seen₀ j₀ map seen j = (j ≤ n) × Mapped of map₀ j map seen
@@ -18,69 +16,53 @@ Inv-loop n map₀ of seen₀ j₀ map seen j = (j ≤ n) × Mapped of map₀ j m
 abbrev μ-loop : tie.MeasureT-loop
 μ-loop n map₀ of seen₀ j₀ map seen j = n - j
 
--- src/lib.rt:210:5
 loop-holds : tie.Need-loop-holds Inv-loop μ-loop
 loop-holds c = (omega arith, mapped-none (c .args .t1) (c .args .map .now))
 
--- src/lib.rt:211:20
 array-read-part : tie.Need-array-read-part Inv-loop μ-loop
 array-read-part c = search needs
 
--- src/lib.rt:212:17
 cast-q : tie.Need-cast-q Inv-loop μ-loop
 cast-q c = search needs
 
--- src/lib.rt:213:18
 mul-at : tie.Need-mul-at Inv-loop μ-loop
 mul-at c = search needs
 
--- src/lib.rt:214:9
 slice-write-map : tie.Need-slice-write-map Inv-loop μ-loop
 slice-write-map c = omega (arith, mapped-length (c .before .before .args .t1) (c .before .before .args .map .now) (c .before .loop .j) (c .before .loop .map) (c .before .loop .seen) (c .before .loop .inv .1) (omega (arith, c .before .before .pre .1)), c .before .before .pre .1)
 
--- src/lib.rt:216:27
 array-read-map : tie.Need-array-read-map Inv-loop μ-loop
 array-read-map c = search needs
 
--- src/lib.rt:216:17
 add-map : tie.Need-add-map Inv-loop μ-loop
 add-map c = search needs
 
--- src/lib.rt:216:13
 slice-write-map-2 : tie.Need-slice-write-map-2 Inv-loop μ-loop
 slice-write-map-2 c = simp length-set (omega (arith, mapped-length (c .before .before .before .args .t1) (c .before .before .before .args .map .now) (c .before .before .loop .j) (c .before .before .loop .map) (c .before .before .loop .seen) (c .before .before .loop .inv .1) (omega (arith, c .before .before .before .pre .1)), c .before .before .before .pre .1))
 
--- src/lib.rt:217:13
 array-read-seen : tie.Need-array-read-seen Inv-loop μ-loop
 array-read-seen c = search needs
 
--- src/lib.rt:217:13
 add-seen : tie.Need-add-seen Inv-loop μ-loop
 add-seen c = omega (arith, seen-le (c .before .before .before .args .t1) (c .before .before .before .args .map .now) (c .before .before .loop .j) (c .before .before .loop .map) (c .before .before .loop .seen) (c .before .before .loop .inv .1) (partAt (c .before .before .before .args .t1) (c .before .before .loop .j)) (c .if1 .taken), c .before .before .before .pre .0)
 
--- src/lib.rt:217:13
 array-write-seen : tie.Need-array-write-seen Inv-loop μ-loop
 array-write-seen c = search needs
 
--- src/lib.rt:219:17
 add-map-2 : tie.Need-add-map-2 Inv-loop μ-loop
 add-map-2 c = search needs
 
--- src/lib.rt:219:13
 slice-write-map-3 : tie.Need-slice-write-map-3 Inv-loop μ-loop
 slice-write-map-3 c = simp length-set (omega (arith, mapped-length (c .before .before .before .args .t1) (c .before .before .before .args .map .now) (c .before .before .loop .j) (c .before .before .loop .map) (c .before .before .loop .seen) (c .before .before .loop .inv .1) (omega (arith, c .before .before .before .pre .1)), c .before .before .before .pre .1))
 
--- src/lib.rt:221:9
 add-j : tie.Need-add-j Inv-loop μ-loop
 add-j c = search needs
 
--- src/lib.rt:210:5
 loop-less : tie.Need-loop-less Inv-loop μ-loop
 loop-less c = search needs
 
--- src/lib.rt:210:5
 loop-again : tie.Need-loop-again Inv-loop μ-loop
-loop-again c = 
+loop-again c =
     let k = c .before .before in
     let qs = k .before .args .t1 in
     let map₀ = k .before .args .map .now in
@@ -93,13 +75,11 @@ loop-again c =
           (c .if1 .came),
     )
 
--- src/lib.rt:203:1
 same-length : tie.Need-same-length Inv-loop μ-loop
 same-length c = mapped-length (c .before .before .args .t1) (c .before .before .args .map .now) (c .before .loop .j) (c .before .loop .map) (c .before .loop .seen) (c .before .loop .inv .1) (omega (arith, c .before .before .pre .1))
 
--- src/lib.rt:203:1
 returns : tie.Need-returns Inv-loop μ-loop
-returns c = 
+returns c =
     let e : c .before .loop .j ≡ c .before .before .args .n = omega arith in
     rw e at (c .before .loop .inv .1 .written)
 

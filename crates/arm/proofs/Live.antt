@@ -1,0 +1,132 @@
+-- The links that count, in an arm whose arrays have their lengths: as many as the count says, each the array's own. Assumes nothing.
+use Prim.Native.Nat.{ℕ, zero, suc, min, _+_, _-_, _*_, _≤_, _<_}
+use mathlib.Core.Path.{_≡_, refl, sym, _∙_, ap}
+use mathlib.Core.Bool.{true, _||_}
+use mathlib.Core.Logic.{inl, inr}
+use mathlib.Core.List.{List, [], _∷_, map}
+use native.Mathlib.Nat.{eq-zero-or-pos}
+use native.Mathlib.Omega.{arith}
+use lib.Dec.{eqb}
+use lib.ListN.{length, take, getD, length-take, length-map, List·getD-eq-default}
+use lib.Seq.{getD-take, length-take-le}
+use Rattle.limits.specs.Limits.{linkLimit, dofLimit}
+use Rattle.masks.specs.Masks.{one, isFree, dofsBelow, dofsOf}
+use Rattle.masks.specs.Starts.{totalOf, startOf}
+use Rattle.masks.proofs.Laws.{dofs-le, below-le}
+use Rattle.masks.proofs.Totals.{start-next, start-all, total-le}
+use Rattle.masks.proofs.Totals as totals
+use Rattle.arm.specs.declared.Link.{Link}
+use Rattle.arm.specs.declared.Arm.{Arm}
+use Rattle.arm.specs.Arm.{liveLinks, linksOf, lockedOf, parentOf, tagOf, tagsOf, parentsOf, masksOf, maskAt, startAt, dofCountOf}
+use Rattle.arm.specs.HandedIn.{rootMaskFits, rootFits}
+use Rattle.arm.proofs.Lists.{map-take, map-at}
+
+-- whatever the arrays are, no more count than fit
+pub masks-le : (a : Arm) → length (masksOf a) ≤ linkLimit
+unfolding masksOf linksOf
+masks-le a = simp (length-map, length-take) (omega arith)
+
+pub dof-count-le : (a : Arm) → dofCountOf a ≤ dofLimit
+unfolding dofCountOf
+dof-count-le a = omega (arith, total-le (masksOf a), masks-le a)
+
+module _ (a : Arm) (whole : length (a .links) ≡ linkLimit) where
+  pub live-fits : liveLinks a ≤ length (a .links)
+  live-fits = omega arith
+
+  pub links-live : length (linksOf a) ≡ liveLinks a
+  unfolding linksOf
+  links-live = length-take-le (liveLinks a) (a .links) live-fits
+
+  pub masks-live : length (masksOf a) ≡ liveLinks a
+  unfolding masksOf
+  masks-live = length-map (linksOf a) lockedOf ∙ links-live
+
+  -- the mask of a link that counts, and of one that does not
+  pub mask-there : (i : ℕ) (d : Link) → i < liveLinks a → getD (a .links) i d .joint .locked ≡ maskAt a i
+  unfolding maskAt masksOf linksOf
+  mask-there i d h =
+      sym (map-at lockedOf (take (liveLinks a) (a .links)) i d 7 (omega (arith, length-take-le (liveLinks a) (a .links) live-fits))
+      ∙ ap lockedOf (getD-take (liveLinks a) (a .links) i d h))
+
+  pub mask-past : (i : ℕ) → liveLinks a ≤ i → 7 ≡ maskAt a i
+  unfolding maskAt
+  mask-past i h = sym (List·getD-eq-default (masksOf a) 7 (omega (arith, masks-live)))
+
+  -- a turn of a loop that sums the DoFs
+  pub start-more : (i : ℕ) (s r : ℕ) (d : Link) → i < liveLinks a → s ≡ startAt a i → r ≡ dofsOf (getD (a .links) i d .joint .locked)
+      → s + r ≡ startAt a (i + 1)
+  unfolding startAt maskAt
+  start-more i s r d h p q =
+      let e : getD (a .links) i d .joint .locked ≡ maskAt a i = mask-there i d h in
+      let z : dofsOf (getD (a .links) i d .joint .locked) ≡ dofsOf (getD (masksOf a) i 7) = ap dofsOf e in
+      omega (arith, start-next (masksOf a) i 7 (omega (arith, masks-live)))
+
+  -- past the last, all are counted
+  pub start-past : (i j : ℕ) → liveLinks a ≤ i → liveLinks a ≤ j → startAt a i ≡ startAt a j
+  unfolding startAt
+  start-past i j h k = start-all (masksOf a) i (omega (arith, masks-live)) ∙ sym (start-all (masksOf a) j (omega (arith, masks-live)))
+
+  -- the end of the loop
+  pub start-end : (link i : ℕ) → i ≡ min link (liveLinks a) → startAt a i ≡ startAt a link
+  start-end link i e = elim (eq-zero-or-pos (link - liveLinks a)) [
+    | inl l ↦ let s : i ≡ link = omega arith in ap (startAt a) s
+    | inr l ↦ start-past i link (omega arith) (omega arith)
+  ]
+
+  -- at any count that is no less, the start is the whole
+  pub start-whole : (i : ℕ) → liveLinks a ≤ i → startAt a i ≡ dofCountOf a
+  unfolding startAt dofCountOf
+  start-whole i h = start-all (masksOf a) i (omega (arith, masks-live))
+
+  -- what the fronts of the arrays of all tags and parents are
+  pub tags-front : take (liveLinks a) (map tagOf (a .links)) ≡ tagsOf a
+  unfolding tagsOf linksOf
+  tags-front = map-take tagOf (liveLinks a) (a .links)
+
+  pub parents-front : take (liveLinks a) (map parentOf (a .links)) ≡ parentsOf a
+  unfolding parentsOf linksOf
+  parents-front = map-take parentOf (liveLinks a) (a .links)
+
+pub start-none : (a : Arm) → 0 ≡ startAt a 0
+unfolding startAt startOf totalOf
+start-none a = refl
+
+pub start-le : (a : Arm) (i : ℕ) → startAt a i ≤ 3 * i
+unfolding startAt
+start-le a i = totals.start-le (masksOf a) i
+
+-- no start lies past the DoF count
+pub start-within : (a : Arm) (i : ℕ) → startAt a i ≤ dofCountOf a
+unfolding startAt dofCountOf
+start-within a i = within (masksOf a) i
+  where
+    within : (ms : List ℕ) (i : ℕ) → startOf ms i ≤ totalOf ms
+    unfolding startOf totalOf
+    within ms zero = omega arith
+    within [] (suc i) = omega arith
+    within (m ∷ ms) (suc i) = omega (arith, within ms i)
+
+-- a place in a row, as a sum that fits
+pub place-small : (a : Arm) (i axis m s b : ℕ) → s ≡ startAt a i → b ≡ dofsBelow m axis → s + b ≤ dofLimit + 3
+place-small a i axis m s b p q = omega (arith, start-within a i, dof-count-le a, below-le m axis, dofs-le m)
+
+pub dofs-small : (mask r : ℕ) → r ≡ dofsOf mask → r ≤ 3
+dofs-small mask r e = omega (arith, dofs-le mask)
+
+-- ---- the root
+
+pub root-none : (a : Arm) → a .«link_count» ≡ 0 → true ≡ rootFits a
+unfolding rootFits masksOf linksOf
+root-none a e = let z : liveLinks a ≡ 0 = omega arith in rw z
+
+first : (ls : List Link) (n : ℕ) (d : Link) → 0 < n → 0 < length ls
+    → (eqb (getD ls 0 d .joint .locked) 7 || eqb (getD ls 0 d .joint .locked) 0) ≡ rootMaskFits (map lockedOf (take n ls))
+first [] n d h l = absurd (omega arith)
+first (x ∷ ls) zero d h l = absurd (omega arith)
+first (x ∷ ls) (suc n) d h l = refl
+
+pub root-some : (a : Arm) → length (a .links) ≡ linkLimit → (d : Link) → (a .«link_count» ≡ 0 → ⊥)
+    → (eqb (getD (a .links) 0 d .joint .locked) 7 || eqb (getD (a .links) 0 d .joint .locked) 0) ≡ rootFits a
+unfolding rootFits masksOf linksOf
+root-some a w d h = first (a .links) (liveLinks a) d (omega arith) (omega arith)

@@ -1,0 +1,74 @@
+-- An arm, up to its counts: what lies past them is no part of it.
+use Prim.Native.Nat.{ℕ, min}
+use mathlib.Core.List.{List, [], _∷_, map}
+use lib.ListN.{take, getD}
+use lib.Ieee.{Float}
+use Rattle.limits.specs.Limits.{linkLimit, couplingLimit}
+use Rattle.masks.specs.Starts.{totalOf, startOf}
+use Rattle.arm.specs.declared.Link.{Link}
+use Rattle.arm.specs.declared.Coupling.{Coupling}
+use Rattle.arm.specs.declared.Row.{Row}
+use Rattle.arm.specs.declared.RowName.{RowName}
+use Rattle.arm.specs.declared.RowName.the-variants.{Velocities, Damping, Armature, Frictions, Accelerations}
+use Rattle.arm.specs.declared.Arm.{Arm}
+
+-- ---- links and couplings
+
+-- how many links count: never more than fit
+abbrev pub liveLinks : Arm → ℕ
+liveLinks a = min (a .«link_count») linkLimit
+
+unfoldable pub linksOf : Arm → List Link
+linksOf a = take (liveLinks a) (a .links)
+
+unfoldable pub couplingsOf : Arm → List Coupling
+couplingsOf a = take (min (a .«coupling_count») couplingLimit) (a .couplings)
+
+abbrev pub tagOf : Link → ℕ
+tagOf l = l .tag
+
+abbrev pub parentOf : Link → ℕ
+parentOf l = l .parent
+
+abbrev pub lockedOf : Link → ℕ
+lockedOf l = l .joint .locked
+
+unfoldable pub tagsOf : Arm → List ℕ
+tagsOf a = map tagOf (linksOf a)
+
+unfoldable pub parentsOf : Arm → List ℕ
+parentsOf a = map parentOf (linksOf a)
+
+-- ---- degrees of freedom
+
+-- the locked masks
+unfoldable pub masksOf : Arm → List ℕ
+masksOf a = map lockedOf (linksOf a)
+
+-- the locked mask of a link; where there is no such link, all is locked
+unfoldable pub maskAt : Arm → ℕ → ℕ
+maskAt a link = getD (masksOf a) link 7
+
+-- the start of a link: the sum of all earlier links' DoFs
+unfoldable pub startAt : Arm → ℕ → ℕ
+startAt a link = startOf (masksOf a) link
+
+unfoldable pub dofCountOf : Arm → ℕ
+dofCountOf a = totalOf (masksOf a)
+
+-- ---- rows
+
+abbrev pub rowNumber : RowName → ℕ
+rowNumber Velocities = 0
+rowNumber Damping = 1
+rowNumber Armature = 2
+rowNumber Frictions = 3
+rowNumber Accelerations = 4
+
+-- a row's first n entries
+abbrev pub entriesTo : ℕ → Row → List Float
+entriesTo n row = take n (row .entries)
+
+-- the rows, up to the DoF count
+unfoldable pub rowsOf : Arm → List (List Float)
+rowsOf a = map (entriesTo (dofCountOf a)) (a .rows)
