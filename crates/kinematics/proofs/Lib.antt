@@ -1,0 +1,9 @@
+pub mod Small
+pub mod Pass
+pub mod Blocks
+pub mod Shift
+pub mod Laid
+pub mod Store
+pub mod Turns
+pub mod Same
+pub mod Ends

@@ -1,0 +1,5 @@
+pub mod Blocks
+pub mod Link
+pub mod Pass
+pub mod State
+pub mod Answers

@@ -1,0 +1,111 @@
+-- What is kept of an arm, poses and shifts in its links and Jacobian blocks in the tables, and the pass that refreshes marked links.
+use mathlib.Core.Path.{_≡_}
+use Prim.Native.Nat.{ℕ, zero, suc}
+use mathlib.Core.Bool.{Bool, true, false, cond, _&&_}
+use mathlib.Core.List.{List, [], _∷_, _++_, map}
+use lib.ListN.{getD, set, drop, replicate}
+use lib.Ieee.{Float, nan}
+use Rattle.limits.specs.Limits.{tableSize}
+use Rattle.floats.specs.Floats.{zero32}
+use Rattle.masks.specs.Starts.{startOf}
+use Rattle.planar.specs.declared.Rotation.{Rotation}
+use Rattle.planar.specs.declared.Pose.{Pose}
+use Rattle.planar.specs.declared.Point.{Point}
+use Rattle.multibody_joint.specs.declared.Joint.{Joint}
+use Rattle.arm.specs.declared.Link.{Link}
+use Rattle.kinematics.specs.Blocks.{blockAt, withBlock}
+use Rattle.kinematics.specs.Link.{Kept, Inputs, rootKept, laterKept, finiteKept, withKept}
+use Rattle.kinematics.specs.Pass.{Ops, newAt, run, allTo}
+
+-- ---- the links
+
+-- what is read past the end of a list, where no link stands
+abbrev pub noLink : Link
+noLink =
+    let p : Point = record { x = nan; y = nan } in
+    let q : Pose = record { re = nan; im = nan; x = nan; y = nan } in
+    let j : Joint = record { locked = 0; limit = 0; motor = 0; frame1 = q; frame2 = q; coordinates = []; rotation = record { re = nan; im = nan }; stiffness = []; rest = [] } in
+    record { tag = 0; parent = 0; joint = j; centre = p; world = q; shift02 = p; shift23 = p }
+
+abbrev pub linkAt : List Link → ℕ → Link
+linkAt ls j = getD ls j noLink
+
+unfoldable pub parentOf : List Link → ℕ → ℕ
+parentOf ls j = linkAt ls j .parent
+
+abbrev pub lockedOf : Link → ℕ
+lockedOf l = l .joint .locked
+
+-- link j's inputs; its start is the sum of all earlier links' DoFs
+unfoldable pub inputsOf : List Link → ℕ → Inputs
+inputsOf ls j = record {
+  joint = linkAt ls j .joint;
+  centre = linkAt ls j .centre;
+  start = startOf (map lockedOf ls) j;
+  above = linkAt ls (parentOf ls j) .centre;
+}
+
+-- ---- what is kept
+
+pub record State : Type 0 where
+  pub links : List Link
+  pub tables : List Float
+
+abbrev pub state : List Link → List Float → State
+state ls t = record { links = ls; tables = t }
+
+-- what is kept of link j, read and written
+unfoldable pub keptAt : State → ℕ → Kept
+keptAt s j =
+    let l = linkAt (s .links) j in
+    record { world = l .world; shift02 = l .shift02; shift23 = l .shift23; block = blockAt j (s .tables) }
+
+unfoldable pub putKept : State → ℕ → Kept → State
+putKept s j k = state (set (s .links) j (withKept (linkAt (s .links) j) k)) (withBlock j (k .block) (s .tables))
+
+abbrev pub keptOps : Ops Inputs Kept State
+keptOps = record { root = rootKept; later = laterKept; at = keptAt; put = putKept }
+
+-- ---- the pass
+
+abbrev pub marked : List Bool → ℕ → Bool
+marked marks j = getD marks j false
+
+abbrev pub every : ℕ → Bool
+every j = true
+
+-- link j's results by what a state keeps of its parent, its inputs being those of the links ls
+abbrev pub resultOf : List Link → State → ℕ → Kept
+resultOf ls s j = newAt keptOps (parentOf ls) (inputsOf ls) s j
+
+-- of the first n links those marked are worked out, rising, each from what is kept of its parent
+unfoldable pub stateAfter : List Link → ℕ → (ℕ → Bool) → List Float → State
+stateAfter ls n b t = run keptOps (parentOf ls) (inputsOf ls) b n (state ls t)
+
+-- every result that is worked out is finite
+unfoldable pub fineAfter : List Link → ℕ → (ℕ → Bool) → List Float → Bool
+fineAfter ls n b t = allTo n (λ j. cond (b j) (finiteKept (keptAt (stateAfter ls n b t) j)) true)
+
+-- the tables with +0 in every place; memory past them stays
+abbrev pub cleared : List Float → List Float
+cleared t = replicate tableSize zero32 ++ drop tableSize t
+
+-- ---- its blocks in another list, as a work area holds them
+
+-- the blocks `new` of the first n links that are marked, laid over t
+unfoldable pub laid : (ℕ → Bool) → (ℕ → List Float) → ℕ → List Float → List Float
+laid b new zero t = t
+laid b new (suc j) t = cond (b j) (withBlock j (new j) (laid b new j t)) (laid b new j t)
+
+abbrev pub blocksOf : List Float → ℕ → List Float
+blocksOf t j = blockAt j t
+
+-- link j's block as its turn works it out
+unfoldable pub newBlock : List Link → (ℕ → Bool) → List Float → ℕ → List Float
+newBlock ls b t j = resultOf ls (stateAfter ls j b t) j .block
+
+-- what a pass leaves whose blocks go into a work area
+pub record WorkedOut (ls : List Link) (n : ℕ) (b : ℕ → Bool) (t work work′ : List Float) (links : List Link) (fine : Bool) : Type 0 where
+  pub blocks : work′ ≡ laid b (newBlock ls b t) n work
+  pub refreshed : links ≡ stateAfter ls n b t .links
+  pub test : fine ≡ fineAfter ls n b t
