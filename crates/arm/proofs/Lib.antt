@@ -2,3 +2,5 @@ pub mod Shape
 pub mod Lists
 pub mod Every
 pub mod Live
+pub mod Accepted
+pub mod Edits

@@ -97,15 +97,15 @@ unfolding startAt
 start-le a i = totals.start-le (masksOf a) i
 
 -- no start lies past the DoF count
+within : (ms : List ℕ) (i : ℕ) → startOf ms i ≤ totalOf ms
+unfolding startOf totalOf
+within ms zero = omega arith
+within [] (suc i) = omega arith
+within (m ∷ ms) (suc i) = omega (arith, within ms i)
+
 pub start-within : (a : Arm) (i : ℕ) → startAt a i ≤ dofCountOf a
 unfolding startAt dofCountOf
 start-within a i = within (masksOf a) i
-  where
-    within : (ms : List ℕ) (i : ℕ) → startOf ms i ≤ totalOf ms
-    unfolding startOf totalOf
-    within ms zero = omega arith
-    within [] (suc i) = omega arith
-    within (m ∷ ms) (suc i) = omega (arith, within ms i)
 
 -- a place in a row, as a sum that fits
 pub place-small : (a : Arm) (i axis m s b : ℕ) → s ≡ startAt a i → b ≡ dofsBelow m axis → s + b ≤ dofLimit + 3

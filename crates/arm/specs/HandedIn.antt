@@ -121,7 +121,7 @@ anglesFit a = every linkAngleFits (linksOf a)
 -- ---- the refusal
 
 -- one entry for each rule: what a call that takes an arm adds to its own
-abbrev pub armEntries : Arm → List ℕ
+unfoldable pub armEntries : Arm → List ℕ
 armEntries a =
     unlessOf (countsFit a) 2
     ∷ unlessOf (tagsUnique a) 3

@@ -89,8 +89,8 @@ blocks-same w (suc k) d e p q h =
     let m = suc-mul k w in
     let z : (l : List Float) → part (0 * w) w l ≡ take w l = λ l. ap (λ n. take w (drop n l)) (zero-mul w) in
     let next : (j : ℕ) → j < k → part (j * w) w (drop w d) ≡ part (j * w) w (drop w e) = λ j l.
-        (let g : w + j * w ≡ suc j * w = omega (arith, suc-mul j w) in
-        ap (take w) (drop-drop (j * w) w d ∙ ap (λ n. drop n d) g) ∙ h (suc j) (omega arith) ∙ sym (ap (take w) (drop-drop (j * w) w e ∙ ap (λ n. drop n e) g))) in
+    (let g : w + j * w ≡ suc j * w = omega (arith, suc-mul j w) in
+    ap (take w) (drop-drop (j * w) w d ∙ ap (λ n. drop n d) g) ∙ h (suc j) (omega arith) ∙ sym (ap (take w) (drop-drop (j * w) w e ∙ ap (λ n. drop n e) g))) in
     sym (take-append-drop w d)
     ∙ ap₂ _++_ (sym (z d) ∙ h 0 (omega arith) ∙ z e) (blocks-same w k (drop w d) (drop w e) (rw length-drop (omega arith)) (rw length-drop (omega arith)) next)
     ∙ take-append-drop w e

@@ -68,9 +68,9 @@ module _ (ls : List Link) (count : ℕ) (t : List Float) where
       committed : laid b (blocksOf work) n t ≡ stateAfter ls n b t .tables
       committed =
           laid-same b (blocksOf work) (newBlock ls b t) t n (λ j h m.
-              ap (blockAt j) (k .blocks)
-              ∙ laid-block b (newBlock ls b t) n (new-size ls b t n fit sized long) zeros (omega (arith, enough, zeros-length)) n (omega arith) j h
-              ∙ ap (λ (y : Bool). cond y (newBlock ls b t j) (blockAt j zeros)) m)
+          ap (blockAt j) (k .blocks)
+          ∙ laid-block b (newBlock ls b t) n (new-size ls b t n fit sized long) zeros (omega (arith, enough, zeros-length)) n (omega arith) j h
+          ∙ ap (λ (y : Bool). cond y (newBlock ls b t j) (blockAt j zeros)) m)
           ∙ sym (tables-after ls b t n)
 
       pub marked-yes : r .fine ≡ true → (m : List Float) → m ≡ laid b (blocksOf work) n t → out r m ≡ refreshMarked ls count b t

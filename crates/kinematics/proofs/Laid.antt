@@ -75,6 +75,7 @@ module _ (b : ℕ → Bool) (new : ℕ → List Float) (N : ℕ) (sized : (j : �
       kept : (m : Bool) → k < n → blockAt k (cond m (withBlock n (new n) (laid b new n t)) (laid b new n t)) ≡ blockAt k (laid b new n t)
       kept true q = block-other blockSize N (laid b new n t) (long-n n (omega arith)) n k (new n) h (omega arith) (sized n h)
       kept false q = refl
+
       own : (m : Bool) → blockAt n (cond m (withBlock n (new n) (laid b new n t)) (laid b new n t)) ≡ cond m (new n) (blockAt n t)
       own true = block-same blockSize N (laid b new n t) (long-n n (omega arith)) n (new n) h (sized n h)
       own false = laid-beyond n (omega arith) n (omega arith)

@@ -33,9 +33,16 @@ unfolding shifted
 shifted-size s b h =
     let x = zipTo (plusTimes (neg (s .y))) (row 0 b) (row 2 b) in
     let y = zipTo (plusTimes (s .x)) (row 1 b) (row 2 b) in
-    omega (arith, length-append x (y ++ row 2 b), length-append y (row 2 b),
-    length-zipTo (plusTimes (neg (s .y))) (row 0 b) (row 2 b), length-zipTo (plusTimes (s .x)) (row 1 b) (row 2 b),
-    row-length 0 b h (omega arith), row-length 1 b h (omega arith), row-length 2 b h (omega arith))
+    omega (
+      arith,
+      length-append x (y ++ row 2 b),
+      length-append y (row 2 b),
+      length-zipTo (plusTimes (neg (s .y))) (row 0 b) (row 2 b),
+      length-zipTo (plusTimes (s .x)) (row 1 b) (row 2 b),
+      row-length 0 b h (omega arith),
+      row-length 1 b h (omega arith),
+      row-length 2 b h (omega arith),
+    )
 
 axis-size : (locked start axis : ℕ) (x y w : Float) (b : List Float) → length (axisAdded locked start axis x y w b) ≡ length b
 unfolding axisAdded columnAdded

@@ -1,6 +1,6 @@
 -- What a call on an arm and its lent tables answers, and what the tables then hold.
 use Prim.Native.Nat.{ℕ, zero, suc}
-use mathlib.Core.Bool.{Bool, true, false}
+use mathlib.Core.Bool.{Bool, cond}
 use mathlib.Core.List.{List}
 use lib.Dec.{leb}
 use lib.ListN.{length}
@@ -36,11 +36,7 @@ tablesFit t = leb tableSize (length t)
 
 -- the new arm with the links that a pass left, or 12 and the old one
 unfoldable pub workedBy : Arm → Arm → Refreshed → Edited
-workedBy old new r = workedIf (r .fine)
-  where
-    workedIf : Bool → Edited
-    workedIf true = record { refusal = 0; arm = withLinks new (r .links) }
-    workedIf false = record { refusal = 12; arm = old }
+workedBy old new r = cond (r .fine) (record { refusal = 0; arm = withLinks new (r .links) }) (record { refusal = 12; arm = old })
 
 -- every link of the new arm
 unfoldable pub workedAll : Arm → Arm → List Float → Outcome

@@ -6,7 +6,7 @@ use mathlib.Core.Path.{_≡_}
 use Rattle.arm.specs.declared.Arm.{Arm}
 use Rattle.arm.specs.declared.LinkTests.{LinkTests}
 use Rattle.arm.specs.declared.CouplingTests.{CouplingTests}
-use Rattle.arm.specs.HandedIn.{couplingTestsOf, countsFit, parentsEarlier, rootFits, rowsFinite, tagsUnique, unique}
+use Rattle.arm.specs.HandedIn.{couplingTestsOf, countsFit, parentsEarlier, rootFits, rowsFinite, tagsUnique, unique, armEntries}
 use Rattle.arm.specs.HandedIn.{linkTestsOf}
 use Rattle.arm.specs.HandedIn.{armRefusal}
 use borrow.Author.Needs.{needs}
@@ -29,7 +29,7 @@ module _ (a : Arm) (l : LinkTests) (c : CouplingTests) (unique earlier root rows
       → u₄ ≡ unlessOf (earlier && c .links) 4 → u₅ ≡ unlessOf ((l .masks && root) && c .axes) 5
       → u₇ ≡ unlessOf ((l .floats && c .floats) && rows) 7 → u₉ ≡ unlessOf (l .angles) 9
       → l₇ ≡ lowerOf u₇ u₉ → l₅ ≡ lowerOf u₅ l₇ → l₄ ≡ lowerOf u₄ l₅ → l₃ ≡ lowerOf u₃ l₄ → l₂ ≡ lowerOf u₂ l₃ → l₂ ≡ armRefusal a
-  unfolding armRefusal linkTestsOf couplingTestsOf
+  unfolding armRefusal armEntries linkTestsOf couplingTestsOf
   same p₂ p₃ p₄ p₅ p₇ p₉ q₇ q₅ q₄ q₃ q₂ = rw (q₂, q₃, q₄, q₅, q₇, p₂, p₃, p₄, p₅, p₇, p₉, el, ec, e₃, e₄, e₅, e₇)
 
 -- src/lib.rt:364:9
@@ -102,7 +102,7 @@ lower-requires-5 c κs = search needs
 
 -- src/lib.rt:361:1
 returns : tie.Need-returns
-returns c = 
+returns c =
     let a = c .before .before .before .before .before .before .before .before .before .before .before .before .before .before .before .before .before .before .before .before .before .before .before .before .args .arm in
     same a (c .before .before .before .before .before .before .before .before .before .before .before .before .before .before .before .before .before .before .before .before .before .before .before .link-tests .result) (c .before .before .before .before .before .before .before .before .before .before .before .before .before .before .before .before .before .before .before .before .before .before .coupling-tests .result) (c .before .before .before .before .before .before .before .before .before .before .before .before .before .before .before .before .before .before .tags-unique .result) (c .before .before .before .before .before .before .before .before .before .before .before .before .before .before .before .before .parents-earlier .result) (c .before .before .before .before .before .before .before .before .before .before .before .before .before .root-fits .result) (c .before .before .before .before .before .before .before .rows-finite .result)
     (c .before .before .before .before .before .before .before .before .before .before .before .before .before .before .before .before .before .before .before .before .before .before .before .link-tests .ensures) (c .before .before .before .before .before .before .before .before .before .before .before .before .before .before .before .before .before .before .before .before .before .before .coupling-tests .ensures) (c .before .before .before .before .before .before .before .before .before .before .before .before .before .before .before .before .before .before .tags-unique .ensures) (c .before .before .before .before .before .before .before .before .before .before .before .before .before .before .before .before .parents-earlier .ensures) (c .before .before .before .before .before .before .before .before .before .before .before .before .before .root-fits .ensures) (c .before .before .before .before .before .before .before .rows-finite .ensures)

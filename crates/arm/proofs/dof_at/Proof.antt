@@ -1,3 +1,5 @@
+use Rattle.arm.proofs.Live.{place-small}
+use native.Mathlib.Omega.{arith}
 use Rattle.arm.specs.Edits.{dofAt}
 use borrow.Author.Needs.{needs}
 use Rattle.arm.proofs.dof_at.Statement.{statement}
@@ -22,7 +24,7 @@ dofs-below-requires c κs = search needs
 
 -- src/lib.rt:161:5
 add-result : tie.Need-add-result
-add-result c = omega (arith, place-small (@args .arm) (@args .link) (@args .axis) (@mask-at .result) _ _ (@start-of .ensures) (@dofs-below .ensures))
+add-result c = omega (arith, place-small (c .before .before .before .args .arm) (c .before .before .before .args .link) (c .before .before .before .args .axis) (c .before .mask-at .result) _ _ (c .before .before .start-of .ensures) (c .dofs-below .ensures))
 
 -- src/lib.rt:158:1
 returns : tie.Need-returns

@@ -45,7 +45,7 @@ loop-less c = search needs
 
 -- src/lib.rt:275:5
 loop-again : tie.Need-loop-again Inv-loop μ-loop
-loop-again c = 
+loop-again c =
     let b = marked (c .before .before .before .before .before .args .t1) in
     let new = blocksOf (c .before .before .before .before .before .args .work .now) in
     let t = c .before .before .before .before .before .args .tables .now in
@@ -63,7 +63,7 @@ same-length c = search needs
 
 -- src/lib.rt:268:1
 returns : tie.Need-returns Inv-loop μ-loop
-returns c = 
+returns c =
     let e : c .before .loop .j ≡ c .before .before .before .before .args .n = omega arith in
     c .before .loop .inv .2 ∙ ap (λ (k : ℕ). laid (marked (c .before .before .before .before .args .t1)) (blocksOf (c .before .before .before .before .args .work .now)) k (c .before .before .before .before .args .tables .now)) e
 

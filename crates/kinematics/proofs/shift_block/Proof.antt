@@ -89,7 +89,7 @@ loop-less c = search needs
 
 -- src/lib.rt:46:5
 loop-again : tie.Need-loop-again Inv-loop μ-loop
-loop-again c = 
+loop-again c =
     let b = c .before .before .before .before .before .before .args .block .now in
     (omega arith, simp (length-set, length-set) (c .before .before .before .before .loop .inv .1), columns-more _ _ b (c .before .before .before .before .before .before .pre) (c .before .before .before .before .loop .c) (omega arith) (c .before .before .before .before .loop .block) (c .before .before .before .before .loop .inv .2) _ refl _ refl)
 
@@ -100,7 +100,7 @@ same-length c = search needs
 -- src/lib.rt:39:1
 returns : tie.Need-returns Inv-loop μ-loop
 unfolding shifted
-returns c = 
+returns c =
     let f = plusTimes (neg (c .before .before .before .args .shift .y)) in
     let g = plusTimes (c .before .before .before .args .shift .x) in
     let e : c .before .loop .c ≡ dofLimit = omega arith in

@@ -44,7 +44,7 @@ same-length c = search needs
 
 -- src/lib.rt:250:1
 returns : tie.Need-returns
-returns c = 
+returns c =
     let e : length (c .before .before .before .before .before .before .args .t3) ≡ blockSize = search needs in
     copied-in (c .before .before .before .before .before .before .args .at) blockSize (c .before .before .before .before .before .before .args .to .now) (c .before .before .before .before .before .before .args .t3) (c .before .before .copy .last .0) (c .before .before .before .before .before .before .pre) e (c .before .before .copy .ensures)
 

@@ -114,16 +114,16 @@ loop-less c = search needs
 
 -- src/lib.rt:231:5
 loop-again : tie.Need-loop-again Inv-loop μ-loop
-loop-again c = 
+loop-again c =
     let ls = c .before .before .before .before .before .before .before .args .given in
     let b = marked (c .before .before .before .before .before .before .before .args .t3) in
     let t = c .before .before .before .before .before .before .before .args .tables .now in
     let o = c .before .before .before .before .before .before .before .args .work .now in
     ⊎-elim
     (λ w. held-more ls (c .before .before .before .before .before .before .before .args .n) (c .before .before .before .before .before .before .before .pre .0) (c .before .before .before .before .before .before .before .good .0 .1 .0 .1) b t o (c .before .before .before .before .before .before .before .pre .1 .0) (c .before .before .before .before .before .before .before .pre .1 .1) (c .before .before .before .before .loop .j) (c .before .before .before .before .loop .start) (c .before .before .before .before .loop .work) (c .before .before .before .before .loop .links) (c .before .before .before .before .loop .fine) (c .before .before .before .before .loop .inv) (c .before .before .before .loop-test .taken) (c .dofs .result) (c .dofs .ensures) (c .before .if1 .work) (c .before .if1 .links) (c .before .if1 .fine)
-        (w .0 .taken) (w .2 .result) (w .2 .ensures) (w .5 .result) (w .7 .last .1 .1 .1 .1 .0) (w .5 .ensures) (w .7 .result .link) (w .7 .result .fine) (w .7 .ensures) (w .15 ∙ w .11 .ensures) (ap length (w .15) ∙ w .12 .given) (w .16) (w .17))
+    (w .0 .taken) (w .2 .result) (w .2 .ensures) (w .5 .result) (w .7 .last .1 .1 .1 .1 .0) (w .5 .ensures) (w .7 .result .link) (w .7 .result .fine) (w .7 .ensures) (w .15 ∙ w .11 .ensures) (ap length (w .15) ∙ w .12 .given) (w .16) (w .17))
     (λ w. held-skip ls (c .before .before .before .before .before .before .before .args .n) (c .before .before .before .before .before .before .before .pre .0) (c .before .before .before .before .before .before .before .good .0 .1 .0 .1) b t o (c .before .before .before .before .before .before .before .pre .1 .0) (c .before .before .before .before .before .before .before .pre .1 .1) (c .before .before .before .before .loop .j) (c .before .before .before .before .loop .start) (c .before .before .before .before .loop .work) (c .before .before .before .before .loop .links) (c .before .before .before .before .loop .fine) (c .before .before .before .before .loop .inv) (c .before .before .before .loop-test .taken) (c .dofs .result) (c .dofs .ensures) (c .before .if1 .work) (c .before .if1 .links) (c .before .if1 .fine)
-        (w .0 .left) (w .1) (w .2) (w .3))
+    (w .0 .left) (w .1) (w .2) (w .3))
     (c .before .if1 .came)
 
 -- src/lib.rt:215:1

@@ -1,0 +1,49 @@
+-- A list of tests that gives no refusal: each test holds. And a call's own tests go before the arm's. Assumes nothing.
+use Prim.Native.Nat.{ℕ, zero, suc, _≤_}
+use mathlib.Core.Path.{_≡_, refl}
+use mathlib.Core.Bool.{Bool, true, false, _&&_}
+use mathlib.Core.Logic.{inl, inr}
+use mathlib.Core.List.{List, [], _∷_}
+use native.Mathlib.Nat.{eq-zero-or-pos}
+use native.Mathlib.Omega.{arith}
+use borrow.Author.Tests.{leb-true}
+use Rattle.limits.specs.Limits.{linkLimit, couplingLimit}
+use Rattle.refusal.specs.Refusal.{unlessOf, lowerOf, lowest}
+use Rattle.refusal.proofs.Laws.{is-lowest}
+use Rattle.arm.specs.declared.Arm.{Arm}
+use Rattle.arm.specs.HandedIn.{countsFit, armEntries, armRefusal}
+
+-- ---- any list
+
+holds : (b : Bool) (k : ℕ) → unlessOf b (suc k) ≡ 0 → b ≡ true
+holds true k e = refl
+holds false k e = absurd (omega arith)
+
+pub first-holds : (b : Bool) (k : ℕ) (ks : List ℕ) → lowest (unlessOf b (suc k) ∷ ks) ≡ 0 → b ≡ true
+first-holds b k ks e = holds b k (is-lowest (unlessOf b (suc k) ∷ ks) .none e (unlessOf b (suc k)) (inl refl))
+
+pub rest-accepted : (k : ℕ) (ks : List ℕ) → lowest (k ∷ ks) ≡ 0 → lowest ks ≡ 0
+rest-accepted k ks e = elim (eq-zero-or-pos (lowest ks)) [
+  | inl z ↦ z
+  | inr l ↦ is-lowest (k ∷ ks) .none e (lowest ks) (inr (is-lowest ks .given (λ z. omega arith)))
+]
+
+pub both-hold : (a b : Bool) → (a && b) ≡ true → (a ≡ true) × (b ≡ true)
+both-hold true b e = (refl, e)
+both-hold false b e = absurd (let z : true ≡ false = (cc) in differ z)
+  where
+    differ : true ≡ false → ⊥
+    differ z = let o : _≡_ {A = ℕ} 0 1 = cc in omega arith
+
+-- ---- with the arm's
+
+pub own-then-arm : (k : ℕ) (a : Arm) → lowest (k ∷ armEntries a) ≡ lowerOf k (armRefusal a)
+unfolding armEntries armRefusal
+own-then-arm k a = refl
+
+-- an accepted arm's counts fit
+pub counts-accepted : (a : Arm) → lowest (armEntries a) ≡ 0 → (a .«link_count» ≤ linkLimit) × (a .«coupling_count» ≤ couplingLimit)
+unfolding armEntries
+counts-accepted a e =
+    let both = both-hold _ _ (holds (countsFit a) 1 (is-lowest (armEntries a) .none e (unlessOf (countsFit a) 2) (inl refl))) in
+    (leb-true _ _ (both .0), leb-true _ _ (both .1))
