@@ -1,0 +1,3 @@
+pub mod Refused
+pub mod Passed
+mod Emptied
