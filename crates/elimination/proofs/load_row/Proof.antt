@@ -1,0 +1,68 @@
+-- `load_row`: the part copied is the row, and it is as long as what it is copied over.
+use Rattle.elimination.proofs.Rows.{overlaid-part, part-length, part-row}
+use Rattle.elimination.specs.Elimination.{row}
+use lib.ListN.{length}
+use Prim.Native.Nat.{_*_}
+use mathlib.Core.Path.{_∙_, _≡_, ap, refl}
+use borrow.Author.Needs.{needs}
+use Rattle.floats.specs.Floats.{overlaid}
+use Rattle.elimination.proofs.load_row.Statement.{statement}
+use Rattle.elimination.proofs.load_row.Tie as tie
+use Rattle.elimination.proofs.load_row.Reads as reads
+use Rattle.elimination.proofs.load_row.Lts as lts
+use Rattle.floats.proofs.copy.Reads as copy-reads
+
+-- src/lib.rt:83:14
+mul-at : tie.Need-mul-at
+mul-at c = search needs
+
+-- src/lib.rt:84:15
+add-end : tie.Need-add-end
+add-end c = search needs
+
+-- src/lib.rt:85:14
+mul-copy : tie.Need-mul-copy
+mul-copy c = search needs
+
+-- src/lib.rt:85:14
+sub-copy : tie.Need-sub-copy
+sub-copy c = search needs
+
+-- src/lib.rt:85:14
+part-copy-start : tie.Need-part-copy-start
+part-copy-start c = search needs
+
+-- src/lib.rt:85:14
+part-copy-end : tie.Need-part-copy-end
+part-copy-end c = search needs
+
+-- src/lib.rt:85:5
+copy-requires : tie.Need-copy-requires
+copy-requires c κs = search needs
+
+-- src/lib.rt:79:1
+same-length : tie.Need-same-length
+same-length c = search needs
+
+-- src/lib.rt:79:1
+returns : tie.Need-returns
+returns c =
+    let n = c .before .before .before .before .before .before .before .args .n in
+    let a = c .before .before .before .before .before .before .before .args .rows .now in
+    let e = part-row n (c .before .before .before .before .before .before .before .args .i) a (c .before .before .before .before .before .before .before .args .i * n) refl in
+    let l : length (row n (c .before .before .before .before .before .before .before .args .i) a) ≡ n = part-length n (c .before .before .before .before .before .before .before .args .i * n) a (c .before .before .before .before .before .before .before .pre .0) in
+    c .before .before .copy .ensures ∙ ap (overlaid (c .before .before .before .before .before .before .before .args .to .now)) e ∙ overlaid-part (c .before .before .before .before .before .before .before .args .to .now) (row n (c .before .before .before .before .before .before .before .args .i) a) n (c .before .before .before .before .before .before .before .pre .1) l
+
+pub load-row-spec : {M : Type 1} → statement M
+load-row-spec =
+    tie.close
+    (tie.spec
+    mul-at
+    add-end
+    mul-copy
+    sub-copy
+    part-copy-start
+    part-copy-end
+    copy-requires
+    same-length
+    returns)
