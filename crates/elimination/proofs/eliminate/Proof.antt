@@ -1,3 +1,14 @@
+-- `eliminate`: the columns done, with those that are left, give the factors; at the end, and at a zero pivot, only the test of the rows is left.
+use Rattle.elimination.proofs.Rows.{at-inside, inside}
+use Rattle.elimination.proofs.Columns.{columns-end, columns-more, columns-zero, swaps-more, tested}
+use Rattle.elimination.specs.Elimination.{columns, factored, factors}
+use lib.Seq.{take-all}
+use lib.ListN.{length, length-set, take}
+use native.Mathlib.Nat.{sub-zero}
+use Prim.Native.Nat.{_*_, _+_, _-_, _<_, _≤_, ℕ}
+use mathlib.Core.List.{List, []}
+use mathlib.Core.Path.{_∙_, _≡_, ap, sym}
+use native.Mathlib.Omega.{arith}
 use borrow.Author.Needs.{needs}
 use Rattle.elimination.proofs.eliminate.Statement.{statement}
 use Rattle.elimination.proofs.eliminate.Tie as tie
@@ -7,14 +18,14 @@ use Rattle.elimination.proofs.eliminate_column.Reads as eliminate-colum
 use Rattle.elimination.proofs.pivot_row.Reads as pivot-row-reads
 
 abbrev Inv-loop : tie.InvT-loop
-Inv-loop n rows₀ swaps₀ pivot₀ spare₀ k₀ rows swaps pivot spare k = ?
+Inv-loop n rows₀ swaps₀ pivot₀ spare₀ k₀ rows swaps pivot spare k = (k ≤ n) × (length rows ≡ n * n) × (length swaps ≡ n) × (length pivot ≡ n) × (length spare ≡ n) × (factored n rows₀ ≡ columns n (n - k) k rows (take k swaps))
 
 abbrev μ-loop : tie.MeasureT-loop
-μ-loop n rows₀ swaps₀ pivot₀ spare₀ k₀ rows swaps pivot spare k = ?
+μ-loop n rows₀ swaps₀ pivot₀ spare₀ k₀ rows swaps pivot spare k = n - k
 
 -- src/lib.rt:140:5
 loop-holds : tie.Need-loop-holds Inv-loop μ-loop
-loop-holds c = search needs
+loop-holds c = (omega arith, c .before .before .before .before .pre .0, c .before .before .before .before .pre .1, c .before .before .before .before .pre .2, c .before .before .before .before .pre .3, ap (λ (j : ℕ). columns (c .before .before .before .before .args .n) j 0 (c .before .before .before .before .args .rows .now) []) (sym (sub-zero (c .before .before .before .before .args .n))))
 
 -- src/lib.rt:141:13
 pivot-row-requires : tie.Need-pivot-row-requires Inv-loop μ-loop
@@ -22,19 +33,19 @@ pivot-row-requires c κs = search needs
 
 -- src/lib.rt:142:18
 mul-at : tie.Need-mul-at Inv-loop μ-loop
-mul-at c = search needs
+mul-at c = omega (arith, inside (c .pivot-row .result) (c .before .before .before .before .before .before .before .before .args .n) (c .pivot-row .ensures .2))
 
 -- src/lib.rt:142:18
 add-at : tie.Need-add-at Inv-loop μ-loop
-add-at c = search needs
+add-at c = omega (arith, at-inside (c .pivot-row .result) (c .before .before .before .loop .k) (c .before .before .before .before .before .before .before .before .args .n) (c .pivot-row .ensures .2) (c .before .before .loop-test .taken))
 
 -- src/lib.rt:143:12
 mul-if1 : tie.Need-mul-if1 Inv-loop μ-loop
-mul-if1 c = search needs
+mul-if1 c = let h = at-inside (c .pivot-row .result) (c .before .before .before .loop .k) (c .before .before .before .before .before .before .before .before .args .n) (c .pivot-row .ensures .2) (c .before .before .loop-test .taken) in let g : c .pivot-row .result * c .before .before .before .before .before .before .before .before .args .n + c .before .before .before .loop .k < length (c .before .before .before .loop .rows) = omega arith in search needs
 
 -- src/lib.rt:143:12
 slice-read-if1 : tie.Need-slice-read-if1 Inv-loop μ-loop
-slice-read-if1 c = search needs
+slice-read-if1 c = omega (arith, at-inside (c .before .pivot-row .result) (c .before .before .before .before .loop .k) (c .before .before .before .before .before .before .before .before .before .args .n) (c .before .pivot-row .ensures .2) (c .before .before .before .loop-test .taken))
 
 -- src/lib.rt:144:13
 same-length : tie.Need-same-length Inv-loop μ-loop
@@ -54,11 +65,11 @@ same-length-4 c = search needs
 
 -- src/lib.rt:144:13
 returns : tie.Need-returns Inv-loop μ-loop
-returns c = search needs
+returns c = c .before .before .before .before .before .loop .inv .5 ∙ columns-zero (c .before .before .before .before .before .before .before .before .before .before .args .n) (c .before .before .before .before .before .loop .k) (c .before .before .before .before .before .loop .rows) (take (c .before .before .before .before .before .loop .k) (c .before .before .before .before .before .loop .swaps)) (c .before .before .pivot-row .result) (c .before .before .before .before .loop-test .taken) (c .before .before .pivot-row .ensures .0) (c .if1 .taken)
 
 -- src/lib.rt:146:9
 eliminate-column-requires : tie.Need-eliminate-column-requires Inv-loop μ-loop
-eliminate-column-requires c κs = search needs
+eliminate-column-requires c κs = (c .before .before .before .before .before .before .before .loop-test .taken, c .before .before .before .before .before .pivot-row .ensures .2, c .before .before .before .before .before .before .before .before .loop .inv .1, c .before .before .before .before .before .before .before .before .loop .inv .3, c .before .before .before .before .before .before .before .before .loop .inv .4)
 
 -- src/lib.rt:147:9
 mul-swaps : tie.Need-mul-swaps Inv-loop μ-loop
@@ -78,7 +89,22 @@ loop-less c = search needs
 
 -- src/lib.rt:140:5
 loop-again : tie.Need-loop-again Inv-loop μ-loop
-loop-again c = search needs
+loop-again c =
+    let n = c .before .before .before .before .before .before .before .before .before .before .before .before .before .before .before .before .before .before .before .before .args .n in
+    let k = c .before .before .before .before .before .before .before .before .before .before .before .before .before .before .before .loop .k in
+    let s = c .before .before .before .before .before .before .before .before .before .before .before .before .before .before .before .loop .swaps in
+    let p = c .before .before .before .before .before .before .before .before .before .before .before .before .pivot-row .result in
+    let t = c .before .before .before .before .before .before .eliminate-column .last .1 .1 .1 .0 in
+    let h : k < length s = omega arith in (
+      omega arith,
+      c .before .before .before .before .before .rows .given ∙ c .before .before .before .before .before .before .before .before .before .before .before .before .before .before .before .loop .inv .1,
+      length-set s k p ∙ c .before .before .before .before .before .before .before .before .before .before .before .before .before .before .before .loop .inv .2,
+      c .before .before .before .pivot .given ∙ c .before .before .before .before .before .before .before .before .before .before .before .before .before .before .before .loop .inv .3,
+      c .before .spare .given ∙ c .before .before .before .before .before .before .before .before .before .before .before .before .before .before .before .loop .inv .4,
+      c .before .before .before .before .before .before .before .before .before .before .before .before .before .before .before .loop .inv .5
+          ∙ columns-more n k (c .before .before .before .before .before .before .before .before .before .before .before .before .before .before .before .loop .rows) (take k s) p (c .before .before .before .before .before .before .before .before .before .before .before .before .before .before .loop-test .taken) (c .before .before .before .before .before .before .before .before .before .before .before .before .pivot-row .ensures .0) t (c .before .before .before .before .before .before .before .before .before .before .if1 .left) (c .before .before .before .before .before .before .eliminate-column .ensures) (c .before .before .before .before .before .before .before .before .before .before .before .before .pivot-row .ensures .1) (c .before .before .before .before .before .before .before .before .before .before .before .before .pivot-row .ensures .2) (c .before .before .before .before .before .before .before .before .before .before .before .before .before .before .before .loop .inv .1)
+          ∙ ap (columns n (n - (k + 1)) (k + 1) t) (swaps-more k p s h),
+    )
 
 -- src/lib.rt:129:1
 same-length-5 : tie.Need-same-length-5 Inv-loop μ-loop
@@ -98,7 +124,11 @@ same-length-8 c = search needs
 
 -- src/lib.rt:129:1
 returns-2 : tie.Need-returns-2 Inv-loop μ-loop
-returns-2 c = search needs
+returns-2 c =
+    let n = c .before .before .before .before .before .before .args .n in
+    let k = c .before .loop .k in
+    let a = c .before .loop .rows in
+    c .before .loop .inv .5 ∙ columns-end n k a (take k (c .before .loop .swaps)) (c .loop-test .left) ∙ ap (λ (s : List ℕ). tested n a (factors 0 a s)) (take-all k (c .before .loop .swaps) (omega arith))
 
 pub eliminate-spec : {M : Type 1} → statement M
 eliminate-spec =

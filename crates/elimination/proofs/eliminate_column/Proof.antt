@@ -1,3 +1,7 @@
+-- `eliminate_column`: the pivot row is read, the rows are swapped, and those below are reduced: the column, by its definition.
+use Rattle.elimination.proofs.Rows.{inside}
+use mathlib.Core.Path.{_∙_}
+use native.Mathlib.Omega.{arith}
 use borrow.Author.Needs.{needs}
 use Rattle.elimination.proofs.eliminate_column.Statement.{statement}
 use Rattle.elimination.proofs.eliminate_column.Tie as tie
@@ -9,15 +13,15 @@ use Rattle.elimination.proofs.swap_rows.Reads as swap-rows-reads
 
 -- src/lib.rt:123:5
 load-row-requires : tie.Need-load-row-requires
-load-row-requires c κs = search needs
+load-row-requires c κs = (omega (arith, inside (c .before .before .before .before .before .args .p) (c .before .before .before .before .before .args .n) (c .before .before .before .before .before .pre .1)), c .before .before .before .before .before .pre .3)
 
 -- src/lib.rt:124:5
 swap-rows-requires : tie.Need-swap-rows-requires
-swap-rows-requires c κs = search needs
+swap-rows-requires c κs = (c .before .before .before .before .before .before .before .before .before .before .before .pre .0, c .before .before .before .before .before .before .before .before .before .before .before .pre .1, c .before .before .before .before .before .before .before .before .before .before .before .pre .2, c .before .before .before .before .pivot .given ∙ c .before .before .before .before .before .before .before .before .before .before .before .pre .3, c .before .before .before .before .before .before .before .before .before .before .before .pre .4, c .before .before .before .before .before .load-row .ensures)
 
 -- src/lib.rt:125:5
 reduce-below-requires : tie.Need-reduce-below-requires
-reduce-below-requires c κs = search needs
+reduce-below-requires c κs = (c .before .before .before .before .before .before .before .before .before .before .before .before .before .before .before .before .before .before .pre .0, c .before .before .before .before .before .rows .given ∙ c .before .before .before .before .before .before .before .before .before .before .before .before .before .before .before .before .before .before .pre .2, c .before .before .before .before .before .before .before .before .before .before .before .pivot .given ∙ c .before .before .before .before .before .before .before .before .before .before .before .before .before .before .before .before .before .before .pre .3)
 
 -- src/lib.rt:112:1
 same-length : tie.Need-same-length
@@ -33,7 +37,7 @@ same-length-3 c = search needs
 
 -- src/lib.rt:112:1
 returns : tie.Need-returns
-returns c = search needs
+returns c = cc
 
 pub eliminate-column-spec : {M : Type 1} → statement M
 eliminate-column-spec =

@@ -79,7 +79,7 @@ loop-again c =
     let i = c .before .before .before .before .before .loop .i in
     let at = c .before .before .before .before .before .loop .at in
     let a = c .before .before .before .before .before .loop .rows in
-    let y = c .before .before .reduce-row .last .0 in (
+    let y = c .before .before .reduce-row .last .1 .0 in (
       omega arith,
       omega arith,
       c .before .rows .given .1 ∙ c .before .before .before .before .before .loop .inv .2,
