@@ -5,14 +5,10 @@ use mathlib.Core.Path.{ap, sym}
 use borrow.Author.Needs.{needs}
 use Rattle.elimination.proofs.absolute_value.Statement.{statement}
 use Rattle.elimination.proofs.absolute_value.Tie as tie
-use Rattle.elimination.proofs.absolute_value.Reads as reads
-use Rattle.elimination.proofs.absolute_value.Lts as lts
 
--- src/lib.rt:15:1
 returns : tie.Need-returns
 returns c = let x = c .before .args .x in ap (λ (b : Bool). cond b (neg x) x) (sym (c .if1 .taken))
 
--- src/lib.rt:15:1
 returns-2 : tie.Need-returns-2
 returns-2 c = let x = c .before .args .x in ap (λ (b : Bool). cond b (neg x) x) (sym (c .if1 .left))
 

@@ -7,8 +7,6 @@ use native.Mathlib.Omega.{arith}
 use borrow.Author.Needs.{needs}
 use Rattle.elimination.proofs.clear_swaps.Statement.{statement}
 use Rattle.elimination.proofs.clear_swaps.Tie as tie
-use Rattle.elimination.proofs.clear_swaps.Reads as reads
-use Rattle.elimination.proofs.clear_swaps.Lts as lts
 
 abbrev Inv-loop : tie.InvT-loop
 Inv-loop s₀ i₀ s i = (i ≤ length s₀) × (length s ≡ length s₀) × (s ≡ filled i 0 s₀)
@@ -16,35 +14,27 @@ Inv-loop s₀ i₀ s i = (i ≤ length s₀) × (length s ≡ length s₀) × (s
 abbrev μ-loop : tie.MeasureT-loop
 μ-loop s₀ i₀ s i = length s₀ - i
 
--- src/lib.rt:167:5
 loop-holds : tie.Need-loop-holds Inv-loop μ-loop
 loop-holds c = search needs
 
--- src/lib.rt:168:9
 mul-s : tie.Need-mul-s Inv-loop μ-loop
 mul-s c = search needs
 
--- src/lib.rt:168:9
 slice-write-s : tie.Need-slice-write-s Inv-loop μ-loop
 slice-write-s c = search needs
 
--- src/lib.rt:169:9
 add-i : tie.Need-add-i Inv-loop μ-loop
 add-i c = search needs
 
--- src/lib.rt:167:5
 loop-less : tie.Need-loop-less Inv-loop μ-loop
 loop-less c = search needs
 
--- src/lib.rt:167:5
 loop-again : tie.Need-loop-again Inv-loop μ-loop
 loop-again c = (omega arith, simp length-set (c .before .loop .inv .1), filled-more (c .before .loop .i) 0 (c .before .before .args .s .now) (c .before .loop .s) (c .before .loop .inv .2) (omega arith))
 
--- src/lib.rt:163:1
 same-length : tie.Need-same-length Inv-loop μ-loop
 same-length c = search needs
 
--- src/lib.rt:163:1
 returns : tie.Need-returns Inv-loop μ-loop
 returns c = c .before .loop .inv .2 ∙ filled-all (c .before .loop .i) 0 (c .before .before .args .s .now) (omega arith)
 

@@ -5,37 +5,25 @@ use native.Mathlib.Omega.{arith}
 use borrow.Author.Needs.{needs}
 use Rattle.elimination.proofs.eliminate_column.Statement.{statement}
 use Rattle.elimination.proofs.eliminate_column.Tie as tie
-use Rattle.elimination.proofs.eliminate_column.Reads as reads
-use Rattle.elimination.proofs.eliminate_column.Lts as lts
-use Rattle.elimination.proofs.load_row.Reads as load-row-reads
-use Rattle.elimination.proofs.reduce_below.Reads as reduce-below-reads
-use Rattle.elimination.proofs.swap_rows.Reads as swap-rows-reads
 
--- src/lib.rt:123:5
 load-row-requires : tie.Need-load-row-requires
 load-row-requires c κs = (omega (arith, inside (c .before .before .before .before .before .args .p) (c .before .before .before .before .before .args .n) (c .before .before .before .before .before .pre .1)), c .before .before .before .before .before .pre .3)
 
--- src/lib.rt:124:5
 swap-rows-requires : tie.Need-swap-rows-requires
 swap-rows-requires c κs = (c .before .before .before .before .before .before .before .before .before .before .before .pre .0, c .before .before .before .before .before .before .before .before .before .before .before .pre .1, c .before .before .before .before .before .before .before .before .before .before .before .pre .2, c .before .before .before .before .pivot .given ∙ c .before .before .before .before .before .before .before .before .before .before .before .pre .3, c .before .before .before .before .before .before .before .before .before .before .before .pre .4, c .before .before .before .before .before .load-row .ensures)
 
--- src/lib.rt:125:5
 reduce-below-requires : tie.Need-reduce-below-requires
 reduce-below-requires c κs = (c .before .before .before .before .before .before .before .before .before .before .before .before .before .before .before .before .before .before .pre .0, c .before .before .before .before .before .rows .given ∙ c .before .before .before .before .before .before .before .before .before .before .before .before .before .before .before .before .before .before .pre .2, c .before .before .before .before .before .before .before .before .before .before .before .pivot .given ∙ c .before .before .before .before .before .before .before .before .before .before .before .before .before .before .before .before .before .before .pre .3)
 
--- src/lib.rt:112:1
 same-length : tie.Need-same-length
 same-length c = search needs
 
--- src/lib.rt:112:1
 same-length-2 : tie.Need-same-length-2
 same-length-2 c = search needs
 
--- src/lib.rt:112:1
 same-length-3 : tie.Need-same-length-3
 same-length-3 c = search needs
 
--- src/lib.rt:112:1
 returns : tie.Need-returns
 returns c = cc
 

@@ -1,66 +1,60 @@
+-- `factor`: the room is tested as the definition does; then the front of both lent slices is worked, and the rest stays.
+use Rattle.elimination.proofs.Rows.{square-mono}
+use Rattle.elimination.proofs.Room.{factor-front, factor-large, factor-short, front-length, room-rows, room-swaps}
+use borrow.Author.Tests.{not-false, not-true}
+use Prim.Native.Nat.{_*_}
+use native.Mathlib.Omega.{arith}
 use borrow.Author.Needs.{needs}
 use Rattle.elimination.proofs.factor.Statement.{statement}
 use Rattle.elimination.proofs.factor.Tie as tie
-use Rattle.elimination.proofs.factor.Reads as reads
-use Rattle.elimination.proofs.factor.Lts as lts
-use Rattle.elimination.proofs.factor_whole.Reads as factor-whole-reads
-use Rattle.elimination.proofs.square_fits.Reads as square-fits-reads
 
--- src/lib.rt:203:16
 square-fits-requires : tie.Need-square-fits-requires
 square-fits-requires c κs = search needs
 
--- src/lib.rt:205:9
 returns : tie.Need-returns
-returns c = search needs
+returns c = factor-short (c .before .before .before .before .args .n) (c .before .before .before .before .args .rows .now) (c .before .before .before .before .args .swaps .now) (c .before .square-fits .result) (c .before .square-fits .ensures) (not-true _ (c .if1 .taken))
 
--- src/lib.rt:208:9
 returns-2 : tie.Need-returns-2
-returns-2 c = search needs
+returns-2 c = factor-large (c .before .before .before .before .before .args .n) (c .before .before .before .before .before .args .rows .now) (c .before .before .before .before .before .args .swaps .now) (c .before .before .square-fits .result) (c .before .before .square-fits .ensures) (not-false _ (c .before .if1 .left)) (c .if2 .taken)
 
--- src/lib.rt:210:14
 mul-nn : tie.Need-mul-nn
-mul-nn c = search needs
+mul-nn c = omega (arith, square-mono (c .before .before .before .before .before .args .n) 48 (c .if2 .left))
 
--- src/lib.rt:211:21
 sub-factor-whole : tie.Need-sub-factor-whole
 sub-factor-whole c = search needs
 
--- src/lib.rt:211:21
 part-factor-whole-start : tie.Need-part-factor-whole-start
 part-factor-whole-start c = search needs
 
--- src/lib.rt:211:21
 part-factor-whole-end : tie.Need-part-factor-whole-end
-part-factor-whole-end c = search needs
+part-factor-whole-end c = room-rows (c .before .before .before .before .before .args .n) (c .before .before .before .before .before .args .rows .now) (c .before .before .before .before .before .args .swaps .now) (c .before .before .square-fits .result) (c .before .before .square-fits .ensures) (not-false _ (c .before .if1 .left))
 
--- src/lib.rt:211:39
 sub-factor-whole-2 : tie.Need-sub-factor-whole-2
 sub-factor-whole-2 c = search needs
 
--- src/lib.rt:211:39
 part-factor-whole-start-2 : tie.Need-part-factor-whole-start-2
 part-factor-whole-start-2 c = search needs
 
--- src/lib.rt:211:39
 part-factor-whole-end-2 : tie.Need-part-factor-whole-end-2
-part-factor-whole-end-2 c = search needs
+part-factor-whole-end-2 c = room-swaps (c .before .before .before .before .before .before .args .n) (c .before .before .before .before .before .before .args .rows .now) (c .before .before .before .before .before .before .args .swaps .now) (c .before .before .before .square-fits .result) (c .before .before .before .square-fits .ensures) (not-false _ (c .before .before .if1 .left))
 
--- src/lib.rt:211:5
 factor-whole-requires : tie.Need-factor-whole-requires
-factor-whole-requires c κs = search needs
+factor-whole-requires c κs =
+    let n = c .before .before .before .before .before .before .before .args .n in
+    let a = c .before .before .before .before .before .before .before .args .rows .now in
+    let s = c .before .before .before .before .before .before .before .args .swaps .now in
+    let r = room-rows n a s (c .before .before .before .before .square-fits .result) (c .before .before .before .before .square-fits .ensures) (not-false _ (c .before .before .before .if1 .left)) in
+    let w = room-swaps n a s (c .before .before .before .before .square-fits .result) (c .before .before .before .before .square-fits .ensures) (not-false _ (c .before .before .before .if1 .left)) in
+    (c .before .before .if2 .left, front-length (n * n) a r, front-length n s w)
 
--- src/lib.rt:200:1
 same-length : tie.Need-same-length
 same-length c = search needs
 
--- src/lib.rt:200:1
 same-length-2 : tie.Need-same-length-2
 same-length-2 c = search needs
 
--- src/lib.rt:200:1
 returns-3 : tie.Need-returns-3
-returns-3 c = search needs
+returns-3 c = factor-front (c .before .before .before .before .before .before .before .before .before .before .before .before .args .n) (c .before .before .before .before .before .before .before .before .before .before .before .before .args .rows .now) (c .before .before .before .before .before .before .before .before .before .before .before .before .args .swaps .now) (c .before .before .before .before .before .before .before .before .before .square-fits .result) (c .before .before .before .before .before .before .before .before .before .square-fits .ensures) (not-false _ (c .before .before .before .before .before .before .before .before .if1 .left)) (c .before .before .before .before .before .before .before .if2 .left) (c .before .before .before .before .factor-whole .result) (c .before .before .before .before .factor-whole .last .1 .0) (c .before .before .before .before .factor-whole .last .1 .1 .0) (c .before .before .before .before .factor-whole .ensures)
 
 pub factor-spec : {M : Type 1} → statement M
 factor-spec =

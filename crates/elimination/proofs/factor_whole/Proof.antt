@@ -1,88 +1,66 @@
+-- `factor_whole`: the factors where no pivot was zero and the rows are finite; else zeros, and the trouble that was met first.
+use Rattle.elimination.proofs.Columns.{factored-good, factored-singular, factored-wild}
+use mathlib.Core.Path.{_∙_}
 use borrow.Author.Needs.{needs}
 use Rattle.elimination.proofs.factor_whole.Statement.{statement}
 use Rattle.elimination.proofs.factor_whole.Tie as tie
-use Rattle.elimination.proofs.factor_whole.Reads as reads
-use Rattle.elimination.proofs.factor_whole.Lts as lts
-use Rattle.elimination.proofs.clear.Reads as clear-reads
-use Rattle.elimination.proofs.clear_swaps.Reads as clear-swaps-reads
-use Rattle.elimination.proofs.eliminate.Reads as eliminate-reads
-use Rattle.floats.proofs.all_finite.Reads as all-finite-reads
 
--- src/lib.rt:179:43
 sub-eliminate : tie.Need-sub-eliminate
 sub-eliminate c = search needs
 
--- src/lib.rt:179:43
 part-pivot-start : tie.Need-part-pivot-start
 part-pivot-start c = search needs
 
--- src/lib.rt:179:43
 part-pivot-end : tie.Need-part-pivot-end
 part-pivot-end c = search needs
 
--- src/lib.rt:179:61
 sub-eliminate-2 : tie.Need-sub-eliminate-2
 sub-eliminate-2 c = search needs
 
--- src/lib.rt:179:61
 part-spare-start : tie.Need-part-spare-start
 part-spare-start c = search needs
 
--- src/lib.rt:179:61
 part-spare-end : tie.Need-part-spare-end
 part-spare-end c = search needs
 
--- src/lib.rt:179:9
 eliminate-requires : tie.Need-eliminate-requires
 eliminate-requires c κs = search needs
 
--- src/lib.rt:180:9
 all-finite-requires : tie.Need-all-finite-requires
 all-finite-requires c κs = search needs
 
--- src/lib.rt:182:9
 same-length : tie.Need-same-length
 same-length c = search needs
 
--- src/lib.rt:182:9
 same-length-2 : tie.Need-same-length-2
 same-length-2 c = search needs
 
--- src/lib.rt:182:9
 returns : tie.Need-returns
-returns c = search needs
+returns c = factored-good (c .before .before .before .before .before .before .before .before .before .before .before .before .before .before .before .before .args .n) (c .before .before .before .before .before .before .before .before .before .before .before .before .before .before .before .before .args .rows .now) (c .before .before .before .before .before .before .before .before .before .eliminate .last .1 .0) (c .before .before .before .before .before .before .before .before .before .eliminate .last .1 .1 .0) (c .before .before .before .before .before .before .before .before .before .eliminate .result) (c .before .all-finite .result) (c .before .before .before .before .before .before .before .before .before .eliminate .ensures) (c .before .all-finite .ensures) (c .if1 .taken)
 
--- src/lib.rt:184:5
 clear-requires : tie.Need-clear-requires
 clear-requires c κs = search needs
 
--- src/lib.rt:185:5
 clear-swaps-requires : tie.Need-clear-swaps-requires
 clear-swaps-requires c κs = search needs
 
--- src/lib.rt:173:1
 same-length-3 : tie.Need-same-length-3
 same-length-3 c = search needs
 
--- src/lib.rt:173:1
 same-length-4 : tie.Need-same-length-4
 same-length-4 c = search needs
 
--- src/lib.rt:173:1
 returns-2 : tie.Need-returns-2
-returns-2 c = search needs
+returns-2 c = factored-singular (c .before .before .before .before .before .before .before .before .before .before .before .before .before .before .before .before .before .before .before .before .before .before .before .before .before .args .n) (c .before .before .before .before .before .before .before .before .before .before .before .before .before .before .before .before .before .before .before .before .before .before .before .before .before .args .rows .now) (c .before .before .before .before .before .before .before .before .before .before .before .before .before .before .before .before .before .before .eliminate .last .1 .0) (c .before .before .before .before .before .before .before .before .before .before .before .before .before .before .before .before .before .before .eliminate .last .1 .1 .0) (c .before .before .before .before .before .before .before .before .before .before .before .before .before .before .before .before .before .before .eliminate .result) (c .before .before .before .before .before .before .before .before .before .before .all-finite .result) (c .before .before .before .before .before .before .before .before .before .before .before .before .before .before .before .before .before .before .eliminate .ensures) (c .before .before .before .before .before .before .before .before .before .before .all-finite .ensures) (c .before .before .before .before .before .before .before .before .before .if1 .left) (c .before .before .before .before .before .before .before .clear .last .0) (c .before .before .before .clear-swaps .last .0) (c .before .before .before .before .before .before .before .before .before .before .before .before .before .before .before .before .before .rows .given ∙ c .before .before .before .before .before .before .before .before .before .before .before .before .before .before .before .before .before .before .before .before .before .before .before .before .before .pre .1) (c .before .before .before .before .before .before .before .before .before .before .before .before .before .before .before .swaps .given ∙ c .before .before .before .before .before .before .before .before .before .before .before .before .before .before .before .before .before .before .before .before .before .before .before .before .before .pre .2) (c .before .before .before .before .before .before .before .clear .ensures) (c .before .before .before .clear-swaps .ensures) (c .if2 .taken)
 
--- src/lib.rt:173:1
 same-length-5 : tie.Need-same-length-5
 same-length-5 c = search needs
 
--- src/lib.rt:173:1
 same-length-6 : tie.Need-same-length-6
 same-length-6 c = search needs
 
--- src/lib.rt:173:1
 returns-3 : tie.Need-returns-3
-returns-3 c = search needs
+returns-3 c = factored-wild (c .before .before .before .before .before .before .before .before .before .before .before .before .before .before .before .before .before .before .before .before .before .before .before .before .before .args .n) (c .before .before .before .before .before .before .before .before .before .before .before .before .before .before .before .before .before .before .before .before .before .before .before .before .before .args .rows .now) (c .before .before .before .before .before .before .before .before .before .before .before .before .before .before .before .before .before .before .eliminate .last .1 .0) (c .before .before .before .before .before .before .before .before .before .before .before .before .before .before .before .before .before .before .eliminate .last .1 .1 .0) (c .before .before .before .before .before .before .before .before .before .before .before .before .before .before .before .before .before .before .eliminate .result) (c .before .before .before .before .before .before .before .before .before .before .all-finite .result) (c .before .before .before .before .before .before .before .before .before .before .before .before .before .before .before .before .before .before .eliminate .ensures) (c .before .before .before .before .before .before .before .before .before .before .all-finite .ensures) (c .before .before .before .before .before .before .before .before .before .if1 .left) (c .before .before .before .before .before .before .before .clear .last .0) (c .before .before .before .clear-swaps .last .0) (c .before .before .before .before .before .before .before .before .before .before .before .before .before .before .before .before .before .rows .given ∙ c .before .before .before .before .before .before .before .before .before .before .before .before .before .before .before .before .before .before .before .before .before .before .before .before .before .pre .1) (c .before .before .before .before .before .before .before .before .before .before .before .before .before .before .before .swaps .given ∙ c .before .before .before .before .before .before .before .before .before .before .before .before .before .before .before .before .before .before .before .before .before .before .before .before .before .pre .2) (c .before .before .before .before .before .before .before .clear .ensures) (c .before .before .before .clear-swaps .ensures) (c .if2 .left)
 
 pub factor-whole-spec : {M : Type 1} → statement M
 factor-whole-spec =

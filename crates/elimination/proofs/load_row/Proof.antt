@@ -8,43 +8,31 @@ use borrow.Author.Needs.{needs}
 use Rattle.floats.specs.Floats.{overlaid}
 use Rattle.elimination.proofs.load_row.Statement.{statement}
 use Rattle.elimination.proofs.load_row.Tie as tie
-use Rattle.elimination.proofs.load_row.Reads as reads
-use Rattle.elimination.proofs.load_row.Lts as lts
-use Rattle.floats.proofs.copy.Reads as copy-reads
 
--- src/lib.rt:83:14
 mul-at : tie.Need-mul-at
 mul-at c = search needs
 
--- src/lib.rt:84:15
 add-end : tie.Need-add-end
 add-end c = search needs
 
--- src/lib.rt:85:14
 mul-copy : tie.Need-mul-copy
 mul-copy c = search needs
 
--- src/lib.rt:85:14
 sub-copy : tie.Need-sub-copy
 sub-copy c = search needs
 
--- src/lib.rt:85:14
 part-copy-start : tie.Need-part-copy-start
 part-copy-start c = search needs
 
--- src/lib.rt:85:14
 part-copy-end : tie.Need-part-copy-end
 part-copy-end c = search needs
 
--- src/lib.rt:85:5
 copy-requires : tie.Need-copy-requires
 copy-requires c κs = search needs
 
--- src/lib.rt:79:1
 same-length : tie.Need-same-length
 same-length c = search needs
 
--- src/lib.rt:79:1
 returns : tie.Need-returns
 returns c =
     let n = c .before .before .before .before .before .before .before .args .n in

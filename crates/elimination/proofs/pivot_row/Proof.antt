@@ -12,9 +12,6 @@ use native.Mathlib.Omega.{arith}
 use borrow.Author.Needs.{needs}
 use Rattle.elimination.proofs.pivot_row.Statement.{statement}
 use Rattle.elimination.proofs.pivot_row.Tie as tie
-use Rattle.elimination.proofs.pivot_row.Reads as reads
-use Rattle.elimination.proofs.pivot_row.Lts as lts
-use Rattle.elimination.proofs.absolute_value.Reads as absolute-value-reads
 
 abbrev Inv-loop : tie.InvT-loop
 Inv-loop n k rows p₀ at₀ v₀ i₀ p at v i = (k < i) × (i ≤ n) × (k ≤ p) × (p < n) × (at + n ≡ i * n + k) × (v ≡ absolute (entry n p k rows)) × (pivotRow n k rows ≡ greatest n k rows (n - i) i p)
@@ -22,59 +19,45 @@ Inv-loop n k rows p₀ at₀ v₀ i₀ p at v i = (k < i) × (i ≤ n) × (k ≤
 abbrev μ-loop : tie.MeasureT-loop
 μ-loop n k rows p₀ at₀ v₀ i₀ p at v i = n - i
 
--- src/lib.rt:27:18
 mul-at : tie.Need-mul-at Inv-loop μ-loop
 mul-at c = let h = inside (c .before .args .k) (c .before .args .n) (c .before .pre .0) in omega arith
 
--- src/lib.rt:27:18
 add-at : tie.Need-add-at Inv-loop μ-loop
 add-at c = let h = at-inside (c .before .args .k) (c .before .args .k) (c .before .args .n) (c .before .pre .0) (c .before .pre .0) in omega arith
 
--- src/lib.rt:28:39
 mul-absolute-value : tie.Need-mul-absolute-value Inv-loop μ-loop
 mul-absolute-value c = let h = at-inside (c .before .args .k) (c .before .args .k) (c .before .args .n) (c .before .pre .0) (c .before .pre .0) in let g : c .before .args .k * c .before .args .n + c .before .args .k < length (c .before .args .rows .now) = omega arith in search needs
 
--- src/lib.rt:28:39
 shared-slice-read-absolute-value : tie.Need-shared-slice-read-absolute-value Inv-loop μ-loop
 shared-slice-read-absolute-value c = let h = at-inside (c .before .before .args .k) (c .before .before .args .k) (c .before .before .args .n) (c .before .before .pre .0) (c .before .before .pre .0) in omega arith
 
--- src/lib.rt:28:9
 absolute-value-requires : tie.Need-absolute-value-requires Inv-loop μ-loop
 absolute-value-requires c κs = search needs
 
--- src/lib.rt:29:17
 add-i : tie.Need-add-i Inv-loop μ-loop
 add-i c = search needs
 
--- src/lib.rt:30:5
 loop-holds : tie.Need-loop-holds Inv-loop μ-loop
 loop-holds c = (omega arith, omega arith, omega arith, omega arith, omega (arith, next (c .before .before .before .args .k) (c .before .before .before .args .n)), c .absolute-value .ensures, refl)
 
--- src/lib.rt:31:9
 add-at-2 : tie.Need-add-at-2 Inv-loop μ-loop
 add-at-2 c = let h = inside (c .before .loop .i) (c .before .before .before .before .before .args .n) (c .loop-test .taken) in omega arith
 
--- src/lib.rt:32:36
 mul-absolute-value-2 : tie.Need-mul-absolute-value-2 Inv-loop μ-loop
 mul-absolute-value-2 c = let h = inside (c .before .loop .i) (c .before .before .before .before .before .args .n) (c .loop-test .taken) in let g : c .before .loop .at + c .before .before .before .before .before .args .n < length (c .before .before .before .before .before .args .rows .now) = omega arith in search needs
 
--- src/lib.rt:32:36
 shared-slice-read-absolute-value-2 : tie.Need-shared-slice-read-absolute-value-2 Inv-loop μ-loop
 shared-slice-read-absolute-value-2 c = let h = inside (c .before .before .loop .i) (c .before .before .before .before .before .before .args .n) (c .before .loop-test .taken) in omega arith
 
--- src/lib.rt:32:13
 absolute-value-requires-2 : tie.Need-absolute-value-requires-2 Inv-loop μ-loop
 absolute-value-requires-2 c κs = search needs
 
--- src/lib.rt:37:9
 add-i-2 : tie.Need-add-i-2 Inv-loop μ-loop
 add-i-2 c = search needs
 
--- src/lib.rt:30:5
 loop-less : tie.Need-loop-less Inv-loop μ-loop
 loop-less c = search needs
 
--- src/lib.rt:30:5
 loop-again : tie.Need-loop-again Inv-loop μ-loop
 loop-again c =
     let n = c .before .before .before .before .before .before .before .before .args .n in
@@ -89,7 +72,6 @@ loop-again c =
     (λ w. (omega arith, omega arith, omega arith, omega arith, omega (arith, next i n), w .2 ∙ c .before .before .before .before .loop .inv .5 ∙ ap (λ (j : ℕ). absolute (entry n j k a)) (sym (w .1)), c .before .before .before .before .loop .inv .6 ∙ greatest-more n k a i p (c .before .before .before .loop-test .taken) (c .before .before .before .before .loop .greatest) w2 (c .before .before .before .before .loop .inv .5) ew false (c .if1 .p) (w .0 .left) (w .1)))
     (c .if1 .came)
 
--- src/lib.rt:22:1
 returns : tie.Need-returns Inv-loop μ-loop
 returns c = (sym (c .before .loop .inv .6 ∙ greatest-end (c .before .before .before .before .before .args .n) (c .before .before .before .before .before .args .k) (c .before .before .before .before .before .args .rows .now) (c .before .loop .i) (c .before .loop .p) (omega arith)), omega arith, omega arith)
 

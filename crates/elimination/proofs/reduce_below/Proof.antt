@@ -11,9 +11,6 @@ use native.Mathlib.Omega.{arith}
 use borrow.Author.Needs.{needs}
 use Rattle.elimination.proofs.reduce_below.Statement.{statement}
 use Rattle.elimination.proofs.reduce_below.Tie as tie
-use Rattle.elimination.proofs.reduce_below.Reads as reads
-use Rattle.elimination.proofs.reduce_below.Lts as lts
-use Rattle.elimination.proofs.reduce_row.Reads as reduce-row-reads
 
 abbrev Inv-loop : tie.InvT-loop
 Inv-loop n k rows₀ pivot i₀ at₀ rows i at = (k < i) × (i ≤ n) × (length rows ≡ n * n) × (at ≡ i * n) × (reduced n k pivot (n - (k + 1)) (k + 1) rows₀ ≡ reduced n k pivot (n - i) i rows)
@@ -21,39 +18,30 @@ Inv-loop n k rows₀ pivot i₀ at₀ rows i at = (k < i) × (i ≤ n) × (lengt
 abbrev μ-loop : tie.MeasureT-loop
 μ-loop n k rows₀ pivot i₀ at₀ rows i at = n - i
 
--- src/lib.rt:68:17
 add-i : tie.Need-add-i Inv-loop μ-loop
 add-i c = search needs
 
--- src/lib.rt:69:18
 mul-at : tie.Need-mul-at Inv-loop μ-loop
 mul-at c = omega (arith, inside (c .before .before .args .k) (c .before .before .args .n) (c .before .before .pre .0), next (c .before .before .args .k) (c .before .before .args .n))
 
--- src/lib.rt:70:5
 loop-holds : tie.Need-loop-holds Inv-loop μ-loop
 loop-holds c = search needs
 
--- src/lib.rt:71:19
 add-end : tie.Need-add-end Inv-loop μ-loop
 add-end c = omega (arith, inside (c .before .loop .i) (c .before .before .before .before .args .n) (c .loop-test .taken))
 
--- src/lib.rt:72:23
 mul-reduce-row : tie.Need-mul-reduce-row Inv-loop μ-loop
 mul-reduce-row c = let h = inside (c .before .loop .i) (c .before .before .before .before .args .n) (c .loop-test .taken) in let g : c .before .loop .at < length (c .before .loop .rows) = omega arith in search needs
 
--- src/lib.rt:72:23
 sub-reduce-row : tie.Need-sub-reduce-row Inv-loop μ-loop
 sub-reduce-row c = search needs
 
--- src/lib.rt:72:23
 part-reduce-row-start : tie.Need-part-reduce-row-start Inv-loop μ-loop
 part-reduce-row-start c = omega (arith, inside (c .before .loop .i) (c .before .before .before .before .args .n) (c .loop-test .taken))
 
--- src/lib.rt:72:23
 part-reduce-row-end : tie.Need-part-reduce-row-end Inv-loop μ-loop
 part-reduce-row-end c = omega (arith, inside (c .before .loop .i) (c .before .before .before .before .args .n) (c .loop-test .taken))
 
--- src/lib.rt:72:9
 reduce-row-requires : tie.Need-reduce-row-requires Inv-loop μ-loop
 reduce-row-requires c κs =
     let n = c .before .before .before .before .before .args .n in
@@ -62,15 +50,12 @@ reduce-row-requires c κs =
     let l = ap length (part-row n (c .before .before .loop .i) (c .before .before .loop .rows) (c .before .before .loop .at) (c .before .before .loop .inv .3)) ∙ e in
     (omega arith, omega arith)
 
--- src/lib.rt:74:9
 add-i-2 : tie.Need-add-i-2 Inv-loop μ-loop
 add-i-2 c = search needs
 
--- src/lib.rt:70:5
 loop-less : tie.Need-loop-less Inv-loop μ-loop
 loop-less c = search needs
 
--- src/lib.rt:70:5
 loop-again : tie.Need-loop-again Inv-loop μ-loop
 loop-again c =
     let n = c .before .before .before .before .before .before .before .before .args .n in
@@ -88,11 +73,9 @@ loop-again c =
           ∙ ap (reduced n k p (n - (i + 1)) (i + 1)) (sym (put-back n i a at y (c .before .before .before .before .before .loop .inv .3) ∙ ap (λ (r : List Float). withRow n i r a) (c .before .before .reduce-row .ensures ∙ ap (reducedRow k p) (part-row n i a at (c .before .before .before .before .before .loop .inv .3))))),
     )
 
--- src/lib.rt:64:1
 same-length : tie.Need-same-length Inv-loop μ-loop
 same-length c = search needs
 
--- src/lib.rt:64:1
 returns : tie.Need-returns Inv-loop μ-loop
 returns c = sym (c .before .loop .inv .4 ∙ reduced-end (c .before .before .before .before .args .n) (c .before .before .before .before .args .k) (c .before .before .before .before .args .pivot .now) (c .before .loop .i) (c .before .loop .rows) (c .loop-test .left))
 

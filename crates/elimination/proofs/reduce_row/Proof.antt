@@ -7,79 +7,58 @@ use native.Mathlib.Omega.{arith}
 use borrow.Author.Needs.{needs}
 use Rattle.elimination.proofs.reduce_row.Statement.{statement}
 use Rattle.elimination.proofs.reduce_row.Tie as tie
-use Rattle.elimination.proofs.reduce_row.Reads as reads
-use Rattle.elimination.proofs.reduce_row.Lts as lts
-use Rattle.elimination.proofs.take_away.Reads as take-away-reads
 
--- src/lib.rt:58:18
 mul-factor : tie.Need-mul-factor
 mul-factor c = search needs
 
--- src/lib.rt:58:18
 slice-read-factor : tie.Need-slice-read-factor
 slice-read-factor c = search needs
 
--- src/lib.rt:58:27
 mul-factor-2 : tie.Need-mul-factor-2
 mul-factor-2 c = search needs
 
--- src/lib.rt:58:27
 shared-slice-read-factor : tie.Need-shared-slice-read-factor
 shared-slice-read-factor c = search needs
 
--- src/lib.rt:59:5
 mul-row : tie.Need-mul-row
 mul-row c = search needs
 
--- src/lib.rt:59:5
 slice-write-row : tie.Need-slice-write-row
 slice-write-row c = search needs
 
--- src/lib.rt:60:13
 add-j : tie.Need-add-j
 add-j c = search needs
 
--- src/lib.rt:61:15
 mul-take-away : tie.Need-mul-take-away
 mul-take-away c = search needs
 
--- src/lib.rt:61:15
 sub-take-away : tie.Need-sub-take-away
 sub-take-away c = simp length-set (omega arith)
 
--- src/lib.rt:61:15
 part-take-away-start : tie.Need-part-take-away-start
 part-take-away-start c = simp length-set (omega arith)
 
--- src/lib.rt:61:15
 part-take-away-end : tie.Need-part-take-away-end
 part-take-away-end c = search needs
 
--- src/lib.rt:61:30
 mul-take-away-2 : tie.Need-mul-take-away-2
 mul-take-away-2 c = search needs
 
--- src/lib.rt:61:30
 sub-take-away-2 : tie.Need-sub-take-away-2
 sub-take-away-2 c = search needs
 
--- src/lib.rt:61:30
 part-take-away-start-2 : tie.Need-part-take-away-start-2
 part-take-away-start-2 c = search needs
 
--- src/lib.rt:61:30
 part-take-away-end-2 : tie.Need-part-take-away-end-2
 part-take-away-end-2 c = search needs
 
--- src/lib.rt:61:5
 take-away-requires : tie.Need-take-away-requires
 take-away-requires c κs = let k = c .before .before .before .before .before .before .args .k in let r = c .before .before .before .before .before .before .args .row .now in let p = c .before .before .before .before .before .before .args .pivot .now in right-parts k r p r (factorOf k p r) (c .before .before .before .before .before .before .pre .0) (c .before .before .before .before .before .before .pre .1)
 
--- src/lib.rt:54:1
 same-length : tie.Need-same-length
 same-length c = c .before .row .given .1 ∙ length-set (c .before .before .before .before .before .before .before .before .before .args .row .now) (c .before .before .before .before .before .before .before .before .before .args .k) (factorOf (c .before .before .before .before .before .before .before .before .before .args .k) (c .before .before .before .before .before .before .before .before .before .args .pivot .now) (c .before .before .before .before .before .before .before .before .before .args .row .now))
 
--- src/lib.rt:54:1
 returns : tie.Need-returns
 returns c = let k = c .before .before .before .before .before .before .before .before .before .args .k in let r = c .before .before .before .before .before .before .before .before .before .args .row .now in let p = c .before .before .before .before .before .before .before .before .before .args .pivot .now in row-law k r p (c .before .before .take-away .last .0) (factorOf k p r) (c .before .before .before .before .before .before .before .before .before .pre .0) (c .before .before .before .before .before .before .before .before .before .pre .1) refl (c .before .before .take-away .ensures)
 

@@ -5,22 +5,16 @@ use native.Mathlib.Omega.{arith}
 use borrow.Author.Needs.{needs}
 use Rattle.elimination.proofs.square_fits.Statement.{statement}
 use Rattle.elimination.proofs.square_fits.Tie as tie
-use Rattle.elimination.proofs.square_fits.Reads as reads
-use Rattle.elimination.proofs.square_fits.Lts as lts
 
--- src/lib.rt:194:16
 mul-result : tie.Need-mul-result
 mul-result c = let h = square-mono (c .before .args .n) 48 (c .if1 .taken) in omega arith
 
--- src/lib.rt:194:9
 returns : tie.Need-returns
 returns c = search needs
 
--- src/lib.rt:196:10
 div-result : tie.Need-div-result
 div-result c = search needs
 
--- src/lib.rt:190:1
 returns-2 : tie.Need-returns-2
 returns-2 c = square-by (c .before .args .n) (c .before .args .len) (omega arith)
 

@@ -5,36 +5,25 @@ use native.Mathlib.Omega.{arith}
 use borrow.Author.Needs.{needs}
 use Rattle.elimination.proofs.swap_rows.Statement.{statement}
 use Rattle.elimination.proofs.swap_rows.Tie as tie
-use Rattle.elimination.proofs.swap_rows.Reads as reads
-use Rattle.elimination.proofs.swap_rows.Lts as lts
-use Rattle.elimination.proofs.load_row.Reads as load-row-reads
-use Rattle.elimination.proofs.store_row.Reads as store-row-reads
 
--- src/lib.rt:104:9
 returns : tie.Need-returns
 returns c = sym (swapped-same (c .before .before .before .before .args .n) (c .before .before .before .before .args .k) (c .before .before .before .before .args .p) (c .before .before .before .before .args .rows .now) (c .if1 .taken))
 
--- src/lib.rt:106:5
 load-row-requires : tie.Need-load-row-requires
 load-row-requires c κs = (omega (arith, inside (c .before .before .before .before .before .before .args .k) (c .before .before .before .before .before .before .args .n) (c .before .before .before .before .before .before .pre .0)), c .before .before .before .before .before .before .pre .4)
 
--- src/lib.rt:107:5
 store-row-requires : tie.Need-store-row-requires
 store-row-requires c κs = (omega (arith, inside (c .before .before .before .before .before .before .before .before .before .before .before .args .p) (c .before .before .before .before .before .before .before .before .before .before .before .args .n) (c .before .before .before .before .before .before .before .before .before .before .before .pre .1)), c .before .before .before .spare .given ∙ c .before .before .before .before .before .before .before .before .before .before .before .pre .4)
 
--- src/lib.rt:108:5
 store-row-requires-2 : tie.Need-store-row-requires-2
 store-row-requires-2 c κs = (omega (arith, inside (c .before .before .before .before .before .before .before .before .before .before .before .before .before .before .before .args .k) (c .before .before .before .before .before .before .before .before .before .before .before .before .before .before .before .args .n) (c .before .before .before .before .before .before .before .before .before .before .before .before .before .before .before .pre .0), c .before .before .rows .given), c .before .before .before .before .before .before .before .before .before .before .before .before .before .before .before .pre .3)
 
--- src/lib.rt:99:1
 same-length : tie.Need-same-length
 same-length c = search needs
 
--- src/lib.rt:99:1
 same-length-2 : tie.Need-same-length-2
 same-length-2 c = search needs
 
--- src/lib.rt:99:1
 returns-2 : tie.Need-returns-2
 returns-2 c = cc
 

@@ -9,8 +9,6 @@ use borrow.Author.Needs.{needs}
 use Rattle.floats.proofs.Rows.{zipped, zipped-more, zipped-all}
 use Rattle.elimination.proofs.take_away.Statement.{statement}
 use Rattle.elimination.proofs.take_away.Tie as tie
-use Rattle.elimination.proofs.take_away.Reads as reads
-use Rattle.elimination.proofs.take_away.Lts as lts
 
 abbrev Inv-loop : tie.InvT-loop
 Inv-loop row₀ pivot factor j₀ row j = (j ≤ length row₀) × (length row ≡ length row₀) × (row ≡ zipped (less factor) j row₀ pivot)
@@ -18,51 +16,39 @@ Inv-loop row₀ pivot factor j₀ row j = (j ≤ length row₀) × (length row �
 abbrev μ-loop : tie.MeasureT-loop
 μ-loop row₀ pivot factor j₀ row j = length row₀ - j
 
--- src/lib.rt:48:5
 loop-holds : tie.Need-loop-holds Inv-loop μ-loop
 loop-holds c = search needs
 
--- src/lib.rt:49:18
 mul-row : tie.Need-mul-row Inv-loop μ-loop
 mul-row c = search needs
 
--- src/lib.rt:49:18
 slice-read-row : tie.Need-slice-read-row Inv-loop μ-loop
 slice-read-row c = search needs
 
--- src/lib.rt:49:36
 mul-row-2 : tie.Need-mul-row-2 Inv-loop μ-loop
 mul-row-2 c = search needs
 
--- src/lib.rt:49:36
 shared-slice-read-row : tie.Need-shared-slice-read-row Inv-loop μ-loop
 shared-slice-read-row c = search needs
 
--- src/lib.rt:49:9
 mul-row-3 : tie.Need-mul-row-3 Inv-loop μ-loop
 mul-row-3 c = search needs
 
--- src/lib.rt:49:9
 slice-write-row : tie.Need-slice-write-row Inv-loop μ-loop
 slice-write-row c = search needs
 
--- src/lib.rt:50:9
 add-j : tie.Need-add-j Inv-loop μ-loop
 add-j c = search needs
 
--- src/lib.rt:48:5
 loop-less : tie.Need-loop-less Inv-loop μ-loop
 loop-less c = search needs
 
--- src/lib.rt:48:5
 loop-again : tie.Need-loop-again Inv-loop μ-loop
 loop-again c = (omega arith, simp length-set (c .before .before .before .loop .inv .1), zipped-more (less (c .before .before .before .before .args .factor)) (c .before .before .before .loop .j) (c .before .before .before .before .args .row .now) (c .before .before .before .before .args .pivot .now) nan (c .before .before .before .loop .row) (c .before .before .before .loop .inv .2) (omega arith) (omega arith))
 
--- src/lib.rt:43:1
 same-length : tie.Need-same-length Inv-loop μ-loop
 same-length c = search needs
 
--- src/lib.rt:43:1
 returns : tie.Need-returns Inv-loop μ-loop
 returns c = c .before .loop .inv .2 ∙ zipped-all (less (c .before .before .args .factor)) (c .before .loop .j) (c .before .before .args .row .now) (c .before .before .args .pivot .now) (omega arith)
 
