@@ -11,7 +11,7 @@ use lib.Seq.{length-take-le}
 use lib.Ieee.{Float}
 use Rattle.limits.specs.Limits.{dofLimit}
 use Rattle.refusal.specs.Refusal.{lowest, lowerOf, unlessOf}
-use Rattle.floats.proofs.Sticky.{both-first, both-second}
+use Rattle.floats.proofs.Sticky.{both, both-first, both-second}
 use Rattle.elimination.specs.Elimination.{Factors, factors, factored, roomRefusal, overFront, factoredIn}
 
 -- for n above 0, n · n fits where n does into a share of n
@@ -52,29 +52,35 @@ module _ {A : Type 0} where
 
 -- ---- the factors in lent memory
 
-module _ (n : ℕ) (a : List Float) (s : List ℕ) (r : Bool) (er : r ≡ leb (n * n) (length a)) where
-  room-is : (b : Bool) → (r && leb n (length s)) ≡ b → (leb (n * n) (length a) && leb n (length s)) ≡ b
-  room-is b h = ap (λ (t : Bool). t && leb n (length s)) (sym er) ∙ h
-
+module _ (n : ℕ) (a : List Float) (s : List ℕ) where
   answer-is : (k : ℕ) → roomRefusal n a s ≡ k → factoredIn n a s ≡ cond (eqb k 0) (overFront n (factored n (take (n * n) a)) a s) (factors k a s)
   unfolding factoredIn
   answer-is k e = ap (λ (j : ℕ). cond (eqb j 0) (overFront n (factored n (take (n * n) a)) a s) (factors j a s)) e
 
-  pub factor-short : (r && leb n (length s)) ≡ false → factors 1 a s ≡ factoredIn n a s
-  factor-short h = sym (answer-is 1 (one-given (leb (n * n) (length a) && leb n (length s)) (leb n dofLimit) (room-is false h)))
+  pub factor-fits : n * n ≤ length a → n ≤ length s → n ≤ dofLimit → factoredIn n a s ≡ overFront n (factored n (take (n * n) a)) a s
+  factor-fits la ls l =
+      answer-is 0 (none-given (leb (n * n) (length a) && leb n (length s)) (leb n dofLimit) (both (leb (n * n) (length a)) (leb n (length s)) (le-leb (n * n) (length a) la) (le-leb n (length s) ls)) (le-leb n dofLimit l))
 
-  module _ (h : (r && leb n (length s)) ≡ true) where
-    pub room-rows : n * n ≤ length a
-    room-rows = leb-true (n * n) (length a) (sym er ∙ both-first r _ h)
+  -- r is the code's test of the rows
+  module _ (r : Bool) (er : r ≡ leb (n * n) (length a)) where
+    room-is : (b : Bool) → (r && leb n (length s)) ≡ b → (leb (n * n) (length a) && leb n (length s)) ≡ b
+    room-is b h = ap (λ (t : Bool). t && leb n (length s)) (sym er) ∙ h
 
-    pub room-swaps : n ≤ length s
-    room-swaps = leb-true n (length s) (both-second r _ h)
+    pub factor-short : (r && leb n (length s)) ≡ false → factors 1 a s ≡ factoredIn n a s
+    factor-short h = sym (answer-is 1 (one-given (leb (n * n) (length a) && leb n (length s)) (leb n dofLimit) (room-is false h)))
 
-    pub factor-large : dofLimit < n → factors 2 a s ≡ factoredIn n a s
-    factor-large g = sym (answer-is 2 (two-given (leb (n * n) (length a) && leb n (length s)) (leb n dofLimit) (room-is true h) (lt-leb n dofLimit g)))
+    module _ (h : (r && leb n (length s)) ≡ true) where
+      pub room-rows : n * n ≤ length a
+      room-rows = leb-true (n * n) (length a) (sym er ∙ both-first r _ h)
 
-    pub factor-front : n ≤ dofLimit → (k : ℕ) (y : List Float) (z : List ℕ) → factors k y z ≡ factored n (take (n * n - 0) a)
-        → factors k (y ++ drop (n * n - 0) a) (z ++ drop (n - 0) s) ≡ factoredIn n a s
-    factor-front g k y z e =
-        rw (sub-zero (n * n), sub-zero n) (ap (λ (f : Factors). overFront n f a s) (rw sub-zero at e))
-        ∙ sym (answer-is 0 (none-given (leb (n * n) (length a) && leb n (length s)) (leb n dofLimit) (room-is true h) (le-leb n dofLimit g)))
+      pub room-swaps : n ≤ length s
+      room-swaps = leb-true n (length s) (both-second r _ h)
+
+      pub factor-large : dofLimit < n → factors 2 a s ≡ factoredIn n a s
+      factor-large g = sym (answer-is 2 (two-given (leb (n * n) (length a) && leb n (length s)) (leb n dofLimit) (room-is true h) (lt-leb n dofLimit g)))
+
+      pub factor-front : n ≤ dofLimit → (k : ℕ) (y : List Float) (z : List ℕ) → factors k y z ≡ factored n (take (n * n - 0) a)
+          → factors k (y ++ drop (n * n - 0) a) (z ++ drop (n - 0) s) ≡ factoredIn n a s
+      factor-front g k y z e =
+          rw (sub-zero (n * n), sub-zero n) (ap (λ (f : Factors). overFront n f a s) (rw sub-zero at e))
+          ∙ sym (factor-fits room-rows room-swaps g)

@@ -52,3 +52,10 @@ overlaid-whole [] [] e = refl
 overlaid-whole [] (y ∷ ys) e = absurd (omega arith)
 overlaid-whole (x ∷ xs) [] e = absurd (omega arith)
 overlaid-whole (x ∷ xs) (y ∷ ys) e = ap (λ (l : List Float). y ∷ l) (overlaid-whole xs ys (omega arith))
+
+-- laid over: the front of s, as far as d goes, then the rest of d
+pub overlaid-parts : (d s : List Float) → zipTo second d s ≡ take (length d) s ++ drop (length s) d
+overlaid-parts [] [] = refl
+overlaid-parts [] (y ∷ ys) = refl
+overlaid-parts (x ∷ xs) [] = refl
+overlaid-parts (x ∷ xs) (y ∷ ys) = ap (λ (l : List Float). y ∷ l) (overlaid-parts xs ys)
