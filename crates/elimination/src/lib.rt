@@ -95,45 +95,45 @@ fn store_row(n: usize, i: usize, rows: &mut [f32], from: &[f32])
     copy(&mut rows[at..end], from);
 }
 
+// Row `from` copied over a later row.
+fn move_row(n: usize, from: usize, to: usize, rows: &mut [f32])
+    requires { ⌜ (from < to) × (to * n + n ≤ length (now rows)) ⌝ }
+    ensures { λ _. ⌜ now (rows .exit) ≡ withRow n to (row n from (now (rows .entry))) (now (rows .entry)) ⌝ }
+{
+    let source = from * n;
+    let at = to * n;
+    let mut j = 0;
+    while j < n {
+        rows[at + j] = rows[source + j];
+        j += 1;
+    }
+}
+
 // Rows k and p swapped, where `pivot` is row p already.
-fn swap_rows(n: usize, k: usize, p: usize, rows: &mut [f32], pivot: &[f32], spare: &mut [f32])
-    requires { ⌜ (k < n) × (p < n) × (length (now rows) ≡ n * n) × (length (now pivot) ≡ n) × (length (now spare) ≡ n) × (now pivot ≡ row n p (now rows)) ⌝ }
+fn swap_rows(n: usize, k: usize, p: usize, rows: &mut [f32], pivot: &[f32])
+    requires { ⌜ (k ≤ p) × (p < n) × (length (now rows) ≡ n * n) × (length (now pivot) ≡ n) × (now pivot ≡ row n p (now rows)) ⌝ }
     ensures { λ _. ⌜ now (rows .exit) ≡ swapped n k p (now (rows .entry)) ⌝ }
 {
     if p == k {
         return;
     }
-    load_row(n, k, rows, spare);
-    store_row(n, p, rows, spare);
+    move_row(n, k, p, rows);
     store_row(n, k, rows, pivot);
 }
 
 // Column k, with its pivot in row p.
-fn eliminate_column(
-    n: usize,
-    k: usize,
-    p: usize,
-    rows: &mut [f32],
-    pivot: &mut [f32],
-    spare: &mut [f32],
-)
-    requires { ⌜ (k < n) × (p < n) × (length (now rows) ≡ n * n) × (length (now pivot) ≡ n) × (length (now spare) ≡ n) ⌝ }
+fn eliminate_column(n: usize, k: usize, p: usize, rows: &mut [f32], pivot: &mut [f32])
+    requires { ⌜ (k ≤ p) × (p < n) × (length (now rows) ≡ n * n) × (length (now pivot) ≡ n) ⌝ }
     ensures { λ _. ⌜ now (rows .exit) ≡ column n k p (now (rows .entry)) ⌝ }
 {
     load_row(n, p, rows, pivot);
-    swap_rows(n, k, p, rows, pivot, spare);
+    swap_rows(n, k, p, rows, pivot);
     reduce_below(n, k, rows, pivot);
 }
 
 // The columns one after the other, up to a pivot that is zero: are there none? A value that isn't finite stays so, in what the rows become.
-fn eliminate(
-    n: usize,
-    rows: &mut [f32],
-    swaps: &mut [usize],
-    pivot: &mut [f32],
-    spare: &mut [f32],
-) -> bool
-    requires { ⌜ (length (now rows) ≡ n * n) × (length (now swaps) ≡ n) × (length (now pivot) ≡ n) × (length (now spare) ≡ n) ⌝ }
+fn eliminate(n: usize, rows: &mut [f32], swaps: &mut [usize], pivot: &mut [f32]) -> bool
+    requires { ⌜ (length (now rows) ≡ n * n) × (length (now swaps) ≡ n) × (length (now pivot) ≡ n) ⌝ }
     ensures { λ r. ⌜ factored n (now (rows .entry)) ≡ cond (allFinite (now (rows .exit))) (cond r (factors 0 (now (rows .exit)) (now (swaps .exit))) (trouble n 11)) (trouble n 12) ⌝ }
 {
     let mut k = 0;
@@ -143,7 +143,7 @@ fn eliminate(
         if rows[at] == 0.0 {
             return false;
         }
-        eliminate_column(n, k, p, rows, pivot, spare);
+        eliminate_column(n, k, p, rows, pivot);
         swaps[k] = p;
         k += 1;
     }
@@ -175,8 +175,7 @@ fn factor_whole(n: usize, rows: &mut [f32], swaps: &mut [usize]) -> u8
     ensures { λ r. ⌜ factors r (now (rows .exit)) (now (swaps .exit)) ≡ factored n (now (rows .entry)) ⌝ }
 {
     let mut pivot = [0.0f32; DOFS];
-    let mut spare = [0.0f32; DOFS];
-    let whole = eliminate(n, rows, swaps, &mut pivot[0..n], &mut spare[0..n]);
+    let whole = eliminate(n, rows, swaps, &mut pivot[0..n]);
     let finite = all_finite(rows);
     if whole & finite {
         return 0;

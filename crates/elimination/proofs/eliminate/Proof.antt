@@ -14,28 +14,28 @@ use Rattle.elimination.proofs.eliminate.Statement.{statement}
 use Rattle.elimination.proofs.eliminate.Tie as tie
 
 abbrev Inv-loop : tie.InvT-loop
-Inv-loop n rows₀ swaps₀ pivot₀ spare₀ k₀ rows swaps pivot spare k = (k ≤ n) × (length rows ≡ n * n) × (length swaps ≡ n) × (length pivot ≡ n) × (length spare ≡ n) × (factored n rows₀ ≡ columns n (n - k) k rows (take k swaps))
+Inv-loop n rows₀ swaps₀ pivot₀ k₀ rows swaps pivot k = (k ≤ n) × (length rows ≡ n * n) × (length swaps ≡ n) × (length pivot ≡ n) × (factored n rows₀ ≡ columns n (n - k) k rows (take k swaps))
 
 abbrev μ-loop : tie.MeasureT-loop
-μ-loop n rows₀ swaps₀ pivot₀ spare₀ k₀ rows swaps pivot spare k = n - k
+μ-loop n rows₀ swaps₀ pivot₀ k₀ rows swaps pivot k = n - k
 
 loop-holds : tie.Need-loop-holds Inv-loop μ-loop
-loop-holds c = (omega arith, c .before .before .before .before .pre .0, c .before .before .before .before .pre .1, c .before .before .before .before .pre .2, c .before .before .before .before .pre .3, ap (λ (j : ℕ). columns (c .before .before .before .before .args .n) j 0 (c .before .before .before .before .args .rows .now) []) (sym (sub-zero (c .before .before .before .before .args .n))))
+loop-holds c = (omega arith, c .before .before .before .pre .0, c .before .before .before .pre .1, c .before .before .before .pre .2, ap (λ (j : ℕ). columns (c .before .before .before .args .n) j 0 (c .before .before .before .args .rows .now) []) (sym (sub-zero (c .before .before .before .args .n))))
 
 pivot-row-requires : tie.Need-pivot-row-requires Inv-loop μ-loop
 pivot-row-requires c κs = search needs
 
 mul-at : tie.Need-mul-at Inv-loop μ-loop
-mul-at c = omega (arith, inside (c .pivot-row .result) (c .before .before .before .before .before .before .before .before .args .n) (c .pivot-row .ensures .2))
+mul-at c = omega (arith, inside (c .pivot-row .result) (c .before .before .before .before .before .before .before .args .n) (c .pivot-row .ensures .2))
 
 add-at : tie.Need-add-at Inv-loop μ-loop
-add-at c = omega (arith, at-inside (c .pivot-row .result) (c .before .before .before .loop .k) (c .before .before .before .before .before .before .before .before .args .n) (c .pivot-row .ensures .2) (c .before .before .loop-test .taken))
+add-at c = omega (arith, at-inside (c .pivot-row .result) (c .before .before .before .loop .k) (c .before .before .before .before .before .before .before .args .n) (c .pivot-row .ensures .2) (c .before .before .loop-test .taken))
 
 mul-if1 : tie.Need-mul-if1 Inv-loop μ-loop
-mul-if1 c = let h = at-inside (c .pivot-row .result) (c .before .before .before .loop .k) (c .before .before .before .before .before .before .before .before .args .n) (c .pivot-row .ensures .2) (c .before .before .loop-test .taken) in let g : c .pivot-row .result * c .before .before .before .before .before .before .before .before .args .n + c .before .before .before .loop .k < length (c .before .before .before .loop .rows) = omega arith in search needs
+mul-if1 c = let h = at-inside (c .pivot-row .result) (c .before .before .before .loop .k) (c .before .before .before .before .before .before .before .args .n) (c .pivot-row .ensures .2) (c .before .before .loop-test .taken) in let g : c .pivot-row .result * c .before .before .before .before .before .before .before .args .n + c .before .before .before .loop .k < length (c .before .before .before .loop .rows) = omega arith in search needs
 
 slice-read-if1 : tie.Need-slice-read-if1 Inv-loop μ-loop
-slice-read-if1 c = omega (arith, at-inside (c .before .pivot-row .result) (c .before .before .before .before .loop .k) (c .before .before .before .before .before .before .before .before .before .args .n) (c .before .pivot-row .ensures .2) (c .before .before .before .loop-test .taken))
+slice-read-if1 c = omega (arith, at-inside (c .before .pivot-row .result) (c .before .before .before .before .loop .k) (c .before .before .before .before .before .before .before .before .args .n) (c .before .pivot-row .ensures .2) (c .before .before .before .loop-test .taken))
 
 same-length : tie.Need-same-length Inv-loop μ-loop
 same-length c = search needs
@@ -46,14 +46,11 @@ same-length-2 c = search needs
 same-length-3 : tie.Need-same-length-3 Inv-loop μ-loop
 same-length-3 c = search needs
 
-same-length-4 : tie.Need-same-length-4 Inv-loop μ-loop
-same-length-4 c = search needs
-
 returns : tie.Need-returns Inv-loop μ-loop
-returns c = c .before .before .before .before .before .loop .inv .5 ∙ columns-zero (c .before .before .before .before .before .before .before .before .before .before .args .n) (c .before .before .before .before .before .loop .k) (c .before .before .before .before .before .loop .rows) (take (c .before .before .before .before .before .loop .k) (c .before .before .before .before .before .loop .swaps)) (c .before .before .pivot-row .result) (c .before .before .before .before .loop-test .taken) (c .before .before .pivot-row .ensures .0) (c .if1 .taken)
+returns c = c .before .before .before .before .before .loop .inv .4 ∙ columns-zero (c .before .before .before .before .before .before .before .before .before .args .n) (c .before .before .before .before .before .loop .k) (c .before .before .before .before .before .loop .rows) (take (c .before .before .before .before .before .loop .k) (c .before .before .before .before .before .loop .swaps)) (c .before .before .pivot-row .result) (c .before .before .before .before .loop-test .taken) (c .before .before .pivot-row .ensures .0) (c .if1 .taken)
 
 eliminate-column-requires : tie.Need-eliminate-column-requires Inv-loop μ-loop
-eliminate-column-requires c κs = (c .before .before .before .before .before .before .before .loop-test .taken, c .before .before .before .before .before .pivot-row .ensures .2, c .before .before .before .before .before .before .before .before .loop .inv .1, c .before .before .before .before .before .before .before .before .loop .inv .3, c .before .before .before .before .before .before .before .before .loop .inv .4)
+eliminate-column-requires c κs = (c .before .before .before .before .pivot-row .ensures .1, c .before .before .before .before .pivot-row .ensures .2, c .before .before .before .before .before .before .before .loop .inv .1, c .before .before .before .before .before .before .before .loop .inv .3)
 
 mul-swaps : tie.Need-mul-swaps Inv-loop μ-loop
 mul-swaps c = search needs
@@ -69,21 +66,23 @@ loop-less c = search needs
 
 loop-again : tie.Need-loop-again Inv-loop μ-loop
 loop-again c =
-    let n = c .before .before .before .before .before .before .before .before .before .before .before .before .before .before .before .before .before .before .before .before .args .n in
-    let k = c .before .before .before .before .before .before .before .before .before .before .before .before .before .before .before .loop .k in
-    let s = c .before .before .before .before .before .before .before .before .before .before .before .before .before .before .before .loop .swaps in
-    let p = c .before .before .before .before .before .before .before .before .before .before .before .before .pivot-row .result in
-    let t = c .before .before .before .before .before .before .eliminate-column .last .1 .1 .1 .0 in
+    let n = c .before .before .before .before .before .before .before .before .before .before .before .before .before .before .before .before .args .n in
+    let k = c .before .before .before .before .before .before .before .before .before .before .before .before .loop .k in
+    let s = c .before .before .before .before .before .before .before .before .before .before .before .before .loop .swaps in
+    let p = c .before .before .before .before .before .before .before .before .before .pivot-row .result in
+    let t = c .before .before .before .before .eliminate-column .last .1 .1 .1 .0 in
     let h : k < length s = omega arith in (
       omega arith,
-      c .before .before .before .before .before .rows .given ∙ c .before .before .before .before .before .before .before .before .before .before .before .before .before .before .before .loop .inv .1,
-      length-set s k p ∙ c .before .before .before .before .before .before .before .before .before .before .before .before .before .before .before .loop .inv .2,
-      c .before .before .before .pivot .given ∙ c .before .before .before .before .before .before .before .before .before .before .before .before .before .before .before .loop .inv .3,
-      c .before .spare .given ∙ c .before .before .before .before .before .before .before .before .before .before .before .before .before .before .before .loop .inv .4,
-      c .before .before .before .before .before .before .before .before .before .before .before .before .before .before .before .loop .inv .5
-          ∙ columns-more n k (c .before .before .before .before .before .before .before .before .before .before .before .before .before .before .before .loop .rows) (take k s) p (c .before .before .before .before .before .before .before .before .before .before .before .before .before .before .loop-test .taken) (c .before .before .before .before .before .before .before .before .before .before .before .before .pivot-row .ensures .0) t (c .before .before .before .before .before .before .before .before .before .before .if1 .left) (c .before .before .before .before .before .before .eliminate-column .ensures) (c .before .before .before .before .before .before .before .before .before .before .before .before .pivot-row .ensures .1) (c .before .before .before .before .before .before .before .before .before .before .before .before .pivot-row .ensures .2) (c .before .before .before .before .before .before .before .before .before .before .before .before .before .before .before .loop .inv .1)
+      c .before .before .before .rows .given ∙ c .before .before .before .before .before .before .before .before .before .before .before .before .loop .inv .1,
+      length-set s k p ∙ c .before .before .before .before .before .before .before .before .before .before .before .before .loop .inv .2,
+      c .before .pivot .given ∙ c .before .before .before .before .before .before .before .before .before .before .before .before .loop .inv .3,
+      c .before .before .before .before .before .before .before .before .before .before .before .before .loop .inv .4
+          ∙ columns-more n k (c .before .before .before .before .before .before .before .before .before .before .before .before .loop .rows) (take k s) p (c .before .before .before .before .before .before .before .before .before .before .before .loop-test .taken) (c .before .before .before .before .before .before .before .before .before .pivot-row .ensures .0) t (c .before .before .before .before .before .before .before .if1 .left) (c .before .before .before .before .eliminate-column .ensures) (c .before .before .before .before .before .before .before .before .before .pivot-row .ensures .1) (c .before .before .before .before .before .before .before .before .before .pivot-row .ensures .2) (c .before .before .before .before .before .before .before .before .before .before .before .before .loop .inv .1)
           ∙ ap (columns n (n - (k + 1)) (k + 1) t) (swaps-more k p s h),
     )
+
+same-length-4 : tie.Need-same-length-4 Inv-loop μ-loop
+same-length-4 c = search needs
 
 same-length-5 : tie.Need-same-length-5 Inv-loop μ-loop
 same-length-5 c = search needs
@@ -91,18 +90,12 @@ same-length-5 c = search needs
 same-length-6 : tie.Need-same-length-6 Inv-loop μ-loop
 same-length-6 c = search needs
 
-same-length-7 : tie.Need-same-length-7 Inv-loop μ-loop
-same-length-7 c = search needs
-
-same-length-8 : tie.Need-same-length-8 Inv-loop μ-loop
-same-length-8 c = search needs
-
 returns-2 : tie.Need-returns-2 Inv-loop μ-loop
 returns-2 c =
-    let n = c .before .before .before .before .before .before .args .n in
+    let n = c .before .before .before .before .before .args .n in
     let k = c .before .loop .k in
     let a = c .before .loop .rows in
-    c .before .loop .inv .5 ∙ columns-end n k a (take k (c .before .loop .swaps)) (c .loop-test .left) ∙ ap (λ (s : List ℕ). tested n a (factors 0 a s)) (take-all k (c .before .loop .swaps) (omega arith))
+    c .before .loop .inv .4 ∙ columns-end n k a (take k (c .before .loop .swaps)) (c .loop-test .left) ∙ ap (λ (s : List ℕ). tested n a (factors 0 a s)) (take-all k (c .before .loop .swaps) (omega arith))
 
 pub eliminate-spec : {M : Type 1} → statement M
 eliminate-spec =
@@ -119,7 +112,6 @@ eliminate-spec =
     same-length
     same-length-2
     same-length-3
-    same-length-4
     returns
     eliminate-column-requires
     mul-swaps
@@ -127,8 +119,7 @@ eliminate-spec =
     add-k
     loop-less
     loop-again
+    same-length-4
     same-length-5
     same-length-6
-    same-length-7
-    same-length-8
     returns-2)

@@ -7,22 +7,19 @@ use Rattle.elimination.proofs.eliminate_column.Statement.{statement}
 use Rattle.elimination.proofs.eliminate_column.Tie as tie
 
 load-row-requires : tie.Need-load-row-requires
-load-row-requires c κs = (omega (arith, inside (c .before .before .before .before .before .args .p) (c .before .before .before .before .before .args .n) (c .before .before .before .before .before .pre .1)), c .before .before .before .before .before .pre .3)
+load-row-requires c κs = (omega (arith, inside (c .before .before .before .before .args .p) (c .before .before .before .before .args .n) (c .before .before .before .before .pre .1)), c .before .before .before .before .pre .3)
 
 swap-rows-requires : tie.Need-swap-rows-requires
-swap-rows-requires c κs = (c .before .before .before .before .before .before .before .before .before .before .before .pre .0, c .before .before .before .before .before .before .before .before .before .before .before .pre .1, c .before .before .before .before .before .before .before .before .before .before .before .pre .2, c .before .before .before .before .pivot .given ∙ c .before .before .before .before .before .before .before .before .before .before .before .pre .3, c .before .before .before .before .before .before .before .before .before .before .before .pre .4, c .before .before .before .before .before .load-row .ensures)
+swap-rows-requires c κs = (c .before .before .before .before .before .before .before .before .before .pre .0, c .before .before .before .before .before .before .before .before .before .pre .1, c .before .before .before .before .before .before .before .before .before .pre .2, c .before .before .before .pivot .given ∙ c .before .before .before .before .before .before .before .before .before .pre .3, c .before .before .before .before .load-row .ensures)
 
 reduce-below-requires : tie.Need-reduce-below-requires
-reduce-below-requires c κs = (c .before .before .before .before .before .before .before .before .before .before .before .before .before .before .before .before .before .before .pre .0, c .before .before .before .before .before .rows .given ∙ c .before .before .before .before .before .before .before .before .before .before .before .before .before .before .before .before .before .before .pre .2, c .before .before .before .before .before .before .before .before .before .before .before .pivot .given ∙ c .before .before .before .before .before .before .before .before .before .before .before .before .before .before .before .before .before .before .pre .3)
+reduce-below-requires c κs = (omega arith, c .before .before .before .rows .given ∙ c .before .before .before .before .before .before .before .before .before .before .before .before .before .before .pre .2, c .before .before .before .before .before .before .before .before .pivot .given ∙ c .before .before .before .before .before .before .before .before .before .before .before .before .before .before .pre .3)
 
 same-length : tie.Need-same-length
 same-length c = search needs
 
 same-length-2 : tie.Need-same-length-2
 same-length-2 c = search needs
-
-same-length-3 : tie.Need-same-length-3
-same-length-3 c = search needs
 
 returns : tie.Need-returns
 returns c = cc
@@ -36,5 +33,4 @@ eliminate-column-spec =
     reduce-below-requires
     same-length
     same-length-2
-    same-length-3
     returns)

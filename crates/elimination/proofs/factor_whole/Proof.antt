@@ -14,15 +14,6 @@ part-pivot-start c = search needs
 part-pivot-end : tie.Need-part-pivot-end
 part-pivot-end c = search needs
 
-sub-eliminate-2 : tie.Need-sub-eliminate-2
-sub-eliminate-2 c = search needs
-
-part-spare-start : tie.Need-part-spare-start
-part-spare-start c = search needs
-
-part-spare-end : tie.Need-part-spare-end
-part-spare-end c = search needs
-
 eliminate-requires : tie.Need-eliminate-requires
 eliminate-requires c κs = search needs
 
@@ -36,7 +27,7 @@ same-length-2 : tie.Need-same-length-2
 same-length-2 c = search needs
 
 returns : tie.Need-returns
-returns c = factored-good (c .before .before .before .before .before .before .before .before .before .before .before .before .before .before .before .before .args .n) (c .before .before .before .before .before .before .before .before .before .before .before .before .before .before .before .before .args .rows .now) (c .before .before .before .before .before .before .before .before .before .eliminate .last .1 .0) (c .before .before .before .before .before .before .before .before .before .eliminate .last .1 .1 .0) (c .before .before .before .before .before .before .before .before .before .eliminate .result) (c .before .all-finite .result) (c .before .before .before .before .before .before .before .before .before .eliminate .ensures) (c .before .all-finite .ensures) (c .if1 .taken)
+returns c = factored-good (c .before .before .before .before .before .before .before .before .before .before .before .before .before .before .args .n) (c .before .before .before .before .before .before .before .before .before .before .before .before .before .before .args .rows .now) (c .before .before .before .before .before .before .before .before .eliminate .last .1 .0) (c .before .before .before .before .before .before .before .before .eliminate .last .1 .1 .0) (c .before .before .before .before .before .before .before .before .eliminate .result) (c .before .all-finite .result) (c .before .before .before .before .before .before .before .before .eliminate .ensures) (c .before .all-finite .ensures) (c .if1 .taken)
 
 clear-requires : tie.Need-clear-requires
 clear-requires c κs = search needs
@@ -51,7 +42,7 @@ same-length-4 : tie.Need-same-length-4
 same-length-4 c = search needs
 
 returns-2 : tie.Need-returns-2
-returns-2 c = factored-singular (c .before .before .before .before .before .before .before .before .before .before .before .before .before .before .before .before .before .before .before .before .before .before .before .before .before .args .n) (c .before .before .before .before .before .before .before .before .before .before .before .before .before .before .before .before .before .before .before .before .before .before .before .before .before .args .rows .now) (c .before .before .before .before .before .before .before .before .before .before .before .before .before .before .before .before .before .before .eliminate .last .1 .0) (c .before .before .before .before .before .before .before .before .before .before .before .before .before .before .before .before .before .before .eliminate .last .1 .1 .0) (c .before .before .before .before .before .before .before .before .before .before .before .before .before .before .before .before .before .before .eliminate .result) (c .before .before .before .before .before .before .before .before .before .before .all-finite .result) (c .before .before .before .before .before .before .before .before .before .before .before .before .before .before .before .before .before .before .eliminate .ensures) (c .before .before .before .before .before .before .before .before .before .before .all-finite .ensures) (c .before .before .before .before .before .before .before .before .before .if1 .left) (c .before .before .before .before .before .before .before .clear .last .0) (c .before .before .before .clear-swaps .last .0) (c .before .before .before .before .before .before .before .before .before .before .before .before .before .before .before .before .before .rows .given ∙ c .before .before .before .before .before .before .before .before .before .before .before .before .before .before .before .before .before .before .before .before .before .before .before .before .before .pre .1) (c .before .before .before .before .before .before .before .before .before .before .before .before .before .before .before .swaps .given ∙ c .before .before .before .before .before .before .before .before .before .before .before .before .before .before .before .before .before .before .before .before .before .before .before .before .before .pre .2) (c .before .before .before .before .before .before .before .clear .ensures) (c .before .before .before .clear-swaps .ensures) (c .if2 .taken)
+returns-2 c = factored-singular (c .before .before .before .before .before .before .before .before .before .before .before .before .before .before .before .before .before .before .before .before .before .before .before .args .n) (c .before .before .before .before .before .before .before .before .before .before .before .before .before .before .before .before .before .before .before .before .before .before .before .args .rows .now) (c .before .before .before .before .before .before .before .before .before .before .before .before .before .before .before .before .before .eliminate .last .1 .0) (c .before .before .before .before .before .before .before .before .before .before .before .before .before .before .before .before .before .eliminate .last .1 .1 .0) (c .before .before .before .before .before .before .before .before .before .before .before .before .before .before .before .before .before .eliminate .result) (c .before .before .before .before .before .before .before .before .before .before .all-finite .result) (c .before .before .before .before .before .before .before .before .before .before .before .before .before .before .before .before .before .eliminate .ensures) (c .before .before .before .before .before .before .before .before .before .before .all-finite .ensures) (c .before .before .before .before .before .before .before .before .before .if1 .left) (c .before .before .before .before .before .before .before .clear .last .0) (c .before .before .before .clear-swaps .last .0) (c .before .before .before .before .before .before .before .before .before .before .before .before .before .before .before .before .rows .given ∙ c .before .before .before .before .before .before .before .before .before .before .before .before .before .before .before .before .before .before .before .before .before .before .before .pre .1) (c .before .before .before .before .before .before .before .before .before .before .before .before .before .before .swaps .given ∙ c .before .before .before .before .before .before .before .before .before .before .before .before .before .before .before .before .before .before .before .before .before .before .before .pre .2) (c .before .before .before .before .before .before .before .clear .ensures) (c .before .before .before .clear-swaps .ensures) (c .if2 .taken)
 
 same-length-5 : tie.Need-same-length-5
 same-length-5 c = search needs
@@ -60,7 +51,7 @@ same-length-6 : tie.Need-same-length-6
 same-length-6 c = search needs
 
 returns-3 : tie.Need-returns-3
-returns-3 c = factored-wild (c .before .before .before .before .before .before .before .before .before .before .before .before .before .before .before .before .before .before .before .before .before .before .before .before .before .args .n) (c .before .before .before .before .before .before .before .before .before .before .before .before .before .before .before .before .before .before .before .before .before .before .before .before .before .args .rows .now) (c .before .before .before .before .before .before .before .before .before .before .before .before .before .before .before .before .before .before .eliminate .last .1 .0) (c .before .before .before .before .before .before .before .before .before .before .before .before .before .before .before .before .before .before .eliminate .last .1 .1 .0) (c .before .before .before .before .before .before .before .before .before .before .before .before .before .before .before .before .before .before .eliminate .result) (c .before .before .before .before .before .before .before .before .before .before .all-finite .result) (c .before .before .before .before .before .before .before .before .before .before .before .before .before .before .before .before .before .before .eliminate .ensures) (c .before .before .before .before .before .before .before .before .before .before .all-finite .ensures) (c .before .before .before .before .before .before .before .before .before .if1 .left) (c .before .before .before .before .before .before .before .clear .last .0) (c .before .before .before .clear-swaps .last .0) (c .before .before .before .before .before .before .before .before .before .before .before .before .before .before .before .before .before .rows .given ∙ c .before .before .before .before .before .before .before .before .before .before .before .before .before .before .before .before .before .before .before .before .before .before .before .before .before .pre .1) (c .before .before .before .before .before .before .before .before .before .before .before .before .before .before .before .swaps .given ∙ c .before .before .before .before .before .before .before .before .before .before .before .before .before .before .before .before .before .before .before .before .before .before .before .before .before .pre .2) (c .before .before .before .before .before .before .before .clear .ensures) (c .before .before .before .clear-swaps .ensures) (c .if2 .left)
+returns-3 c = factored-wild (c .before .before .before .before .before .before .before .before .before .before .before .before .before .before .before .before .before .before .before .before .before .before .before .args .n) (c .before .before .before .before .before .before .before .before .before .before .before .before .before .before .before .before .before .before .before .before .before .before .before .args .rows .now) (c .before .before .before .before .before .before .before .before .before .before .before .before .before .before .before .before .before .eliminate .last .1 .0) (c .before .before .before .before .before .before .before .before .before .before .before .before .before .before .before .before .before .eliminate .last .1 .1 .0) (c .before .before .before .before .before .before .before .before .before .before .before .before .before .before .before .before .before .eliminate .result) (c .before .before .before .before .before .before .before .before .before .before .all-finite .result) (c .before .before .before .before .before .before .before .before .before .before .before .before .before .before .before .before .before .eliminate .ensures) (c .before .before .before .before .before .before .before .before .before .before .all-finite .ensures) (c .before .before .before .before .before .before .before .before .before .if1 .left) (c .before .before .before .before .before .before .before .clear .last .0) (c .before .before .before .clear-swaps .last .0) (c .before .before .before .before .before .before .before .before .before .before .before .before .before .before .before .before .rows .given ∙ c .before .before .before .before .before .before .before .before .before .before .before .before .before .before .before .before .before .before .before .before .before .before .before .pre .1) (c .before .before .before .before .before .before .before .before .before .before .before .before .before .before .swaps .given ∙ c .before .before .before .before .before .before .before .before .before .before .before .before .before .before .before .before .before .before .before .before .before .before .before .pre .2) (c .before .before .before .before .before .before .before .clear .ensures) (c .before .before .before .clear-swaps .ensures) (c .if2 .left)
 
 pub factor-whole-spec : {M : Type 1} → statement M
 factor-whole-spec =
@@ -69,9 +60,6 @@ factor-whole-spec =
     sub-eliminate
     part-pivot-start
     part-pivot-end
-    sub-eliminate-2
-    part-spare-start
-    part-spare-end
     eliminate-requires
     all-finite-requires
     same-length
