@@ -31,6 +31,14 @@ three p q r h = let a = both-first (p && q) r h in (both-first p q a, both-secon
 four : (p q r s : Bool) → (p && q && r && s) ≡ true → (p ≡ true) × (q ≡ true) × (r ≡ true) × (s ≡ true)
 four p q r s h = let a = three p q r (both-first (p && q && r) s h) in (a .0, a .1, a .2, both-second (p && q && r) s h)
 
+holds : (b : Bool) (k : ℕ) → unlessOf b (suc k) ≡ 0 → b ≡ true
+holds true k e = refl
+holds false k e = absurd (omega arith)
+
+fails : (b : Bool) (k : ℕ) → (unlessOf b k ≡ 0 → ⊥) → b ≡ false
+fails true k h = absurd (h refl)
+fails false k h = refl
+
 -- ---- lent memory
 
 into-refused : (n k : ℕ) (o : Answer) (x : List Float) → 0 < k → into n k o x ≡ answer k x
@@ -56,20 +64,25 @@ module _ (n : ℕ) (a : List Float) (s : List ℕ) (b y z r : List Float) (ly : 
   test-is : (f : Bool) → f ≡ allFinite (take (n - 0) (y ++ drop (n - 0) z)) → allFinite (backward n a n (forward n a n 0 (permuted 0 s b))) ≡ f
   test-is f ef = sym (ef ∙ ap allFinite (front ∙ e))
 
-  pub unknowns-wild : (f : Bool) → f ≡ allFinite (take (n - 0) (y ++ drop (n - 0) z)) → f ≡ false → answer 12 r ≡ into n 0 (substituted n a s b) r
-  unfolding substituted
-  unknowns-wild f ef h =
-      let t : substituted n a s b ≡ answer 12 [] = rw (test-is f ef, h, and-false (allFinite (forward n a n 0 (permuted 0 s b)))) in
-      sym (ap (λ (o : Answer). into n 0 o r) t ∙ into-trouble n 12 [] r (omega arith))
+  -- f is the code's test, and k the refusal that it gives
+  module _ (f : Bool) (ef : f ≡ allFinite (take (n - 0) (y ++ drop (n - 0) z))) (k : ℕ) (ek : k ≡ unlessOf f 12) where
+    pub unknowns-wild : (k ≡ 0 → ⊥) → answer k r ≡ into n 0 (substituted n a s b) r
+    unfolding substituted
+    unknowns-wild h =
+        let g : f ≡ false = fails f 12 (λ e. h (ek ∙ e)) in
+        let w : k ≡ 12 = ek ∙ ap (λ (t : Bool). unlessOf t 12) g in
+        let t : substituted n a s b ≡ answer 12 [] = rw (test-is f ef, g, and-false (allFinite (forward n a n 0 (permuted 0 s b)))) in
+        ap (λ (j : ℕ). answer j r) w ∙ sym (ap (λ (o : Answer). into n 0 o r) t ∙ into-trouble n 12 [] r (omega arith))
 
-  pub unknowns-good : (f : Bool) → f ≡ allFinite (take (n - 0) (y ++ drop (n - 0) z)) → f ≡ true → n ≤ length r
-      → (w : List Float) → w ≡ overlaid r (take (n - 0) (y ++ drop (n - 0) z)) → answer 0 w ≡ into n 0 (substituted n a s b) r
-  unfolding substituted
-  unknowns-good f ef h l w ew =
-      let g : allFinite (forward n a n 0 (permuted 0 s b)) ≡ true = finite-backward n a n (forward n a n 0 (permuted 0 s b)) (test-is f ef ∙ h) in
-      let t : substituted n a s b ≡ answer 0 (backward n a n (forward n a n 0 (permuted 0 s b))) = rw (test-is f ef, h, g) in
-      let v : w ≡ y ++ drop n r = ew ∙ ap (overlaid r) front ∙ overlaid-parts r y ∙ rw (take-all (length r) y (omega arith), ly) in
-      ap (answer 0) (v ∙ ap (λ (q : List Float). q ++ drop n r) e) ∙ sym (ap (λ (o : Answer). into n 0 o r) t ∙ into-good n (backward n a n (forward n a n 0 (permuted 0 s b))) r)
+    pub unknowns-good : k ≡ 0 → n ≤ length r → (w : List Float) → w ≡ overlaid r (take (n - 0) (y ++ drop (n - 0) z)) → answer k w ≡ into n 0 (substituted n a s b) r
+    unfolding substituted
+    unknowns-good h l w ew =
+        let q = backward n a n (forward n a n 0 (permuted 0 s b)) in
+        let fq : allFinite q ≡ true = test-is f ef ∙ holds f 11 (sym ek ∙ h) in
+        let g : allFinite (forward n a n 0 (permuted 0 s b)) ≡ true = finite-backward n a n (forward n a n 0 (permuted 0 s b)) fq in
+        let t : substituted n a s b ≡ answer 0 q = rw (fq, g) in
+        let v : w ≡ y ++ drop n r = ew ∙ ap (overlaid r) front ∙ overlaid-parts r y ∙ rw (take-all (length r) y (omega arith), ly) in
+        rw h (ap (answer 0) (v ∙ ap (λ (u : List Float). u ++ drop n r) e)) ∙ sym (ap (λ (o : Answer). into n 0 o r) t ∙ into-good n q r)
 
 module _ (n : ℕ) (a : List Float) (s : List ℕ) (b x : List Float) where
   substitute-is : (k : ℕ) → substituteRefusal n a s b (length x) ≡ k → substituteOf n a s b x ≡ into n k (substituted n (take (n * n) a) (take n s) (take n b)) x
@@ -179,10 +192,6 @@ two-first false = refl
 seven-first : (d : Bool) → lowest (0 ∷ 0 ∷ unlessOf d 7 ∷ []) ≡ unlessOf d 7
 unfolding lowerOf
 seven-first d = refl
-
-holds : (b : Bool) (k : ℕ) → unlessOf b (suc k) ≡ 0 → b ≡ true
-holds true k e = refl
-holds false k e = absurd (omega arith)
 
 both-passed : (b c d : Bool) → lowest (unlessOf b 1 ∷ unlessOf c 2 ∷ unlessOf d 7 ∷ []) ≡ 0 → (b ≡ true) × (c ≡ true)
 both-passed b c d e =

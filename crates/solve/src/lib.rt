@@ -108,11 +108,11 @@ fn substitute_whole(
 {
     let mut x = [0.0f32; DOFS];
     unknowns(n, factors, swaps, right, &mut x[0..n]);
-    if !all_finite(&x[0..n]) {
-        return 12;
+    let refusal = unless(all_finite(&x[0..n]), 12);
+    if refusal == 0 {
+        copy(result, &x[0..n]);
     }
-    copy(result, &x[0..n]);
-    0
+    refusal
 }
 
 // The solution for one right side, by the factors and swaps that `factor` made.

@@ -1,15 +1,14 @@
 -- `substitute_whole`: the unknowns stand in the first n places of x; their test is that of all values, and the copy leaves the result past n.
 use Rattle.solve.proofs.Answers.{unknowns-good, unknowns-wild}
 use borrow.Rule.Slice.PartMut.{same-len-mid}
-use borrow.Author.Tests.{not-false, not-true}
 use lib.Ieee.{Float, binary32, ofBits}
 use lib.ListN.{replicate}
 use Prim.Native.Nat.{_-_}
 use mathlib.Core.Path.{_∙_}
 use native.Mathlib.Omega.{arith}
 use borrow.Author.Needs.{needs}
-use Rattle.elimination.proofs.Room.{front-length}
 use Rattle.limits.specs.Limits.{dofLimit}
+use Rattle.elimination.proofs.Room.{front-length}
 use Rattle.solve.proofs.substitute_whole.Statement.{statement}
 use Rattle.solve.proofs.substitute_whole.Tie as tie
 
@@ -37,8 +36,8 @@ part-all-finite-end c = omega (arith, same-len-mid {X = Float} 0 (c .before .bef
 all-finite-requires : tie.Need-all-finite-requires
 all-finite-requires c κs = search needs
 
-returns : tie.Need-returns
-returns c = unknowns-wild (c .before .before .before .before .before .before .before .before .before .before .before .args .n) (c .before .before .before .before .before .before .before .before .before .before .before .args .factors .now) (c .before .before .before .before .before .before .before .before .before .before .before .args .swaps .now) (c .before .before .before .before .before .before .before .before .before .before .before .args .right .now) (c .before .before .before .before .before .unknowns .last .1 .1 .1 .1 .0) (replicate dofLimit (ofBits binary32 0)) (c .before .before .before .before .before .before .before .before .before .before .before .args .result .now) (c .before .before .before .before .x2 .given ∙ front-length (c .before .before .before .before .before .before .before .before .before .before .before .args .n) (replicate dofLimit (ofBits binary32 0)) (c .before .before .before .before .before .before .before .before .before .before .before .pre .0)) (c .before .before .before .before .before .unknowns .ensures) (c .before .all-finite .result) (c .before .all-finite .ensures) (not-true _ (c .if1 .taken))
+unless-requires : tie.Need-unless-requires
+unless-requires c κs = search needs
 
 sub-copy : tie.Need-sub-copy
 sub-copy c = search needs
@@ -47,7 +46,7 @@ part-copy-start : tie.Need-part-copy-start
 part-copy-start c = search needs
 
 part-copy-end : tie.Need-part-copy-end
-part-copy-end c = omega (arith, same-len-mid {X = Float} 0 (c .before .before .before .before .before .before .before .before .before .before .before .before .before .args .n - 0) (replicate dofLimit (ofBits binary32 0)) (c .before .before .before .before .before .before .before .unknowns .last .1 .1 .1 .1 .0) (c .before .before .before .before .before .before .x2 .given))
+part-copy-end c = omega (arith, same-len-mid {X = Float} 0 (c .before .before .before .before .before .before .before .before .before .before .before .before .before .before .args .n - 0) (replicate dofLimit (ofBits binary32 0)) (c .before .before .before .before .before .before .before .before .unknowns .last .1 .1 .1 .1 .0) (c .before .before .before .before .before .before .before .x2 .given))
 
 copy-requires : tie.Need-copy-requires
 copy-requires c κs = search needs
@@ -55,8 +54,15 @@ copy-requires c κs = search needs
 same-length : tie.Need-same-length
 same-length c = search needs
 
+returns : tie.Need-returns
+returns c =
+    let room = replicate dofLimit (ofBits binary32 0) in
+    unknowns-good (c .before .before .before .before .before .before .before .before .before .before .before .before .before .before .before .before .before .before .args .n) (c .before .before .before .before .before .before .before .before .before .before .before .before .before .before .before .before .before .before .args .factors .now) (c .before .before .before .before .before .before .before .before .before .before .before .before .before .before .before .before .before .before .args .swaps .now) (c .before .before .before .before .before .before .before .before .before .before .before .before .before .before .before .before .before .before .args .right .now) (c .before .before .before .before .before .before .before .before .before .before .before .before .unknowns .last .1 .1 .1 .1 .0) room (c .before .before .before .before .before .before .before .before .before .before .before .before .before .before .before .before .before .before .args .result .now) (c .before .before .before .before .before .before .before .before .before .before .before .x2 .given ∙ front-length (c .before .before .before .before .before .before .before .before .before .before .before .before .before .before .before .before .before .before .args .n) room (c .before .before .before .before .before .before .before .before .before .before .before .before .before .before .before .before .before .before .pre .0)) (c .before .before .before .before .before .before .before .before .before .before .before .before .unknowns .ensures) (c .before .before .before .before .before .before .before .before .all-finite .result) (c .before .before .before .before .before .before .before .before .all-finite .ensures) (c .before .before .before .before .before .before .before .unless .result) (c .before .before .before .before .before .before .before .unless .ensures) (c .before .before .before .before .before .before .if1 .taken) (c .before .before .before .before .before .before .before .before .before .before .before .before .before .before .before .before .before .before .pre .4) (c .before .before .copy .last .0) (c .before .before .copy .ensures)
+
 returns-2 : tie.Need-returns-2
-returns-2 c = unknowns-good (c .before .before .before .before .before .before .before .before .before .before .before .before .before .before .before .before .before .args .n) (c .before .before .before .before .before .before .before .before .before .before .before .before .before .before .before .before .before .args .factors .now) (c .before .before .before .before .before .before .before .before .before .before .before .before .before .before .before .before .before .args .swaps .now) (c .before .before .before .before .before .before .before .before .before .before .before .before .before .before .before .before .before .args .right .now) (c .before .before .before .before .before .before .before .before .before .before .before .unknowns .last .1 .1 .1 .1 .0) (replicate dofLimit (ofBits binary32 0)) (c .before .before .before .before .before .before .before .before .before .before .before .before .before .before .before .before .before .args .result .now) (c .before .before .before .before .before .before .before .before .before .before .x2 .given ∙ front-length (c .before .before .before .before .before .before .before .before .before .before .before .before .before .before .before .before .before .args .n) (replicate dofLimit (ofBits binary32 0)) (c .before .before .before .before .before .before .before .before .before .before .before .before .before .before .before .before .before .pre .0)) (c .before .before .before .before .before .before .before .before .before .before .before .unknowns .ensures) (c .before .before .before .before .before .before .before .all-finite .result) (c .before .before .before .before .before .before .before .all-finite .ensures) (not-false _ (c .before .before .before .before .before .before .if1 .left)) (c .before .before .before .before .before .before .before .before .before .before .before .before .before .before .before .before .before .pre .4) (c .before .before .copy .last .0) (c .before .before .copy .ensures)
+returns-2 c =
+    let room = replicate dofLimit (ofBits binary32 0) in
+    unknowns-wild (c .before .before .before .before .before .before .before .before .before .before .before .before .args .n) (c .before .before .before .before .before .before .before .before .before .before .before .before .args .factors .now) (c .before .before .before .before .before .before .before .before .before .before .before .before .args .swaps .now) (c .before .before .before .before .before .before .before .before .before .before .before .before .args .right .now) (c .before .before .before .before .before .before .unknowns .last .1 .1 .1 .1 .0) room (c .before .before .before .before .before .before .before .before .before .before .before .before .args .result .now) (c .before .before .before .before .before .x2 .given ∙ front-length (c .before .before .before .before .before .before .before .before .before .before .before .before .args .n) room (c .before .before .before .before .before .before .before .before .before .before .before .before .pre .0)) (c .before .before .before .before .before .before .unknowns .ensures) (c .before .before .all-finite .result) (c .before .before .all-finite .ensures) (c .before .unless .result) (c .before .unless .ensures) (c .if1 .left)
 
 pub substitute-whole-spec : {M : Type 1} → statement M
 substitute-whole-spec =
@@ -70,10 +76,11 @@ substitute-whole-spec =
     part-all-finite-start
     part-all-finite-end
     all-finite-requires
-    returns
+    unless-requires
     sub-copy
     part-copy-start
     part-copy-end
     copy-requires
     same-length
+    returns
     returns-2)
