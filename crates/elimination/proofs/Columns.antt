@@ -5,8 +5,8 @@ use mathlib.Core.List.{List, [], _∷_, _++_}
 use Prim.Native.Nat.{ℕ, zero, suc, _+_, _-_, _*_, _<_, _≤_}
 use native.Mathlib.Numerals.{add-one}
 use native.Mathlib.Omega.{arith}
-use lib.ListN.{length, take, drop, set, replicate}
-use lib.Seq.{take-suc-set, take-all}
+use lib.ListN.{length, take, set, replicate}
+use lib.Seq.{take-suc-set}
 use lib.Ieee.{Float, binary32, ofBits}
 use Rattle.floats.specs.Floats.{allFinite}
 use Rattle.floats.proofs.Sticky.{both-first, both-second}

@@ -1,5 +1,5 @@
 -- The rows below a pivot row: one row as the code's parts make it, and one row more.
-use mathlib.Core.Path.{_≡_, refl, sym, ap, _∙_}
+use mathlib.Core.Path.{_≡_, sym, ap, _∙_}
 use mathlib.Core.List.{List, [], _∷_, _++_, append-nil}
 use Prim.Native.Nat.{ℕ, suc, _+_, _-_, _<_, _≤_}
 use native.Mathlib.Numerals.{add-one}
@@ -11,19 +11,20 @@ use Rattle.floats.specs.Floats.{zipTo}
 use Rattle.elimination.specs.Elimination.{row, withRow, less, factorOf, reducedRow, reduced}
 use Rattle.elimination.proofs.Rows.{part-length}
 
--- r with the factor f at k, and y for what is right of it
-module _ (k : ℕ) (r pivot y : List Float) (f : Float) (h : k < length r) (l : length r ≡ length pivot) where
+-- r with the factor f at k
+module _ (k : ℕ) (r pivot : List Float) (f : Float) (h : k < length r) (l : length r ≡ length pivot) where
   -- the parts right of column k are as long
   pub right-parts : length (take (length (set r k f) - (k + 1)) (drop (k + 1) (set r k f))) ≡ length (take (length pivot - (k + 1)) (drop (k + 1) pivot))
   right-parts =
       let n : length (set r k f) ≡ length r = length-set r k f in
       part-length (length (set r k f) - (k + 1)) (k + 1) (set r k f) (omega arith) ∙ ap (λ (j : ℕ). j - (k + 1)) (n ∙ l) ∙ sym (part-length (length pivot - (k + 1)) (k + 1) pivot (omega arith))
 
-  pub row-law : f ≡ factorOf k pivot r
+  -- y is what is right of it
+  pub row-law : (y : List Float) → f ≡ factorOf k pivot r
       → y ≡ zipTo (less f) (take (length (set r k f) - (k + 1)) (drop (k + 1) (set r k f))) (take (length pivot - (k + 1)) (drop (k + 1) pivot))
       → take (k + 1) (set r k f) ++ (y ++ drop (length (set r k f) - (k + 1)) (drop (k + 1) (set r k f))) ≡ reducedRow k pivot r
   unfolding reducedRow
-  row-law ef e =
+  row-law y ef e =
       let g : k < k + 1 = omega arith in
       let n : length (set r k f) ≡ length r = length-set r k f in
       let d : drop (k + 1) (set r k f) ≡ drop (k + 1) r = drop-set-lt (k + 1) r k f g in

@@ -1,7 +1,7 @@
 -- Where the rows of an n by n matrix lie in its list, and what a row put back makes of it. By arithmetic on i · n.
-use mathlib.Core.Path.{_≡_, refl, sym, ap, _∙_}
+use mathlib.Core.Path.{_≡_, sym, ap, _∙_}
 use mathlib.Core.List.{List, _++_, append-assoc}
-use Prim.Native.Nat.{ℕ, zero, suc, _+_, _-_, _*_, _<_, _≤_}
+use Prim.Native.Nat.{ℕ, suc, _+_, _-_, _*_, _<_, _≤_}
 use native.Mathlib.Numerals.{add-one}
 use native.Mathlib.Nat.{suc-mul, mul-le-mul-right, mul-le-mul-left, le-trans, eq-or-lt-of-le}
 use mathlib.Core.Logic.{⊎-elim}
@@ -44,9 +44,6 @@ module _ {A : Type 0} where
   part-length m i a h =
       let p : m ≤ length (drop i a) = simp length-drop (omega arith) in
       length-take-le m (drop i a) p
-
-  pub end-length : (i : ℕ) (a b : List A) → length a ≡ length b → length (drop i a) ≡ length (drop i b)
-  end-length i a b h = simp length-drop (omega arith)
 
 -- ---- rows
 

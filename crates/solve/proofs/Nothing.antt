@@ -1,5 +1,5 @@
 -- With n = 0 the solve succeeds at once, whatever is handed in, and changes nothing.
-use mathlib.Core.Path.{_≡_, refl}
+use mathlib.Core.Path.{_≡_}
 use mathlib.Core.List.{List}
 use lib.Dec.{leb·zero}
 use lib.ListN.{length}

@@ -1,5 +1,5 @@
 -- Where the unknowns are finite, so was what the back substitution started from: one test at the end tells of both.
-use mathlib.Core.Path.{_≡_, refl}
+use mathlib.Core.Path.{_≡_}
 use mathlib.Core.Bool.{true}
 use mathlib.Core.List.{List, [], _∷_}
 use Prim.Native.Nat.{ℕ, zero, suc, _+_}

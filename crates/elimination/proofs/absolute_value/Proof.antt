@@ -2,7 +2,6 @@
 use lib.Ieee.{neg}
 use mathlib.Core.Bool.{Bool, cond}
 use mathlib.Core.Path.{ap, sym}
-use borrow.Author.Needs.{needs}
 use Rattle.elimination.proofs.absolute_value.Statement.{statement}
 use Rattle.elimination.proofs.absolute_value.Tie as tie
 

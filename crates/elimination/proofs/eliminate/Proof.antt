@@ -20,7 +20,9 @@ abbrev μ-loop : tie.MeasureT-loop
 μ-loop n rows₀ swaps₀ pivot₀ k₀ rows swaps pivot k = n - k
 
 loop-holds : tie.Need-loop-holds Inv-loop μ-loop
-loop-holds c = (omega arith, c .before .before .before .pre .0, c .before .before .before .pre .1, c .before .before .before .pre .2, ap (λ (j : ℕ). columns (c .before .before .before .args .n) j 0 (c .before .before .before .args .rows .now) []) (sym (sub-zero (c .before .before .before .args .n))))
+loop-holds c =
+    let start = c .before .before .before in
+    (omega arith, start .pre .0, start .pre .1, start .pre .2, ap (λ (j : ℕ). columns (start .args .n) j 0 (start .args .rows .now) []) (sym (sub-zero (start .args .n))))
 
 pivot-row-requires : tie.Need-pivot-row-requires Inv-loop μ-loop
 pivot-row-requires c κs = search needs
@@ -32,7 +34,10 @@ add-at : tie.Need-add-at Inv-loop μ-loop
 add-at c = omega (arith, at-inside (c .pivot-row .result) (c .before .before .before .loop .k) (c .before .before .before .before .before .before .before .args .n) (c .pivot-row .ensures .2) (c .before .before .loop-test .taken))
 
 mul-if1 : tie.Need-mul-if1 Inv-loop μ-loop
-mul-if1 c = let h = at-inside (c .pivot-row .result) (c .before .before .before .loop .k) (c .before .before .before .before .before .before .before .args .n) (c .pivot-row .ensures .2) (c .before .before .loop-test .taken) in let g : c .pivot-row .result * c .before .before .before .before .before .before .before .args .n + c .before .before .before .loop .k < length (c .before .before .before .loop .rows) = omega arith in search needs
+mul-if1 c =
+    let start = c .before .before .before .before .before .before .before in
+    let turn = c .before .before .before in
+    let h = at-inside (c .pivot-row .result) (turn .loop .k) (start .args .n) (c .pivot-row .ensures .2) (c .before .before .loop-test .taken) in let g : c .pivot-row .result * start .args .n + turn .loop .k < length (turn .loop .rows) = omega arith in search needs
 
 slice-read-if1 : tie.Need-slice-read-if1 Inv-loop μ-loop
 slice-read-if1 c = omega (arith, at-inside (c .before .pivot-row .result) (c .before .before .before .before .loop .k) (c .before .before .before .before .before .before .before .before .args .n) (c .before .pivot-row .ensures .2) (c .before .before .before .loop-test .taken))
@@ -47,10 +52,15 @@ same-length-3 : tie.Need-same-length-3 Inv-loop μ-loop
 same-length-3 c = search needs
 
 returns : tie.Need-returns Inv-loop μ-loop
-returns c = c .before .before .before .before .before .loop .inv .4 ∙ columns-zero (c .before .before .before .before .before .before .before .before .before .args .n) (c .before .before .before .before .before .loop .k) (c .before .before .before .before .before .loop .rows) (take (c .before .before .before .before .before .loop .k) (c .before .before .before .before .before .loop .swaps)) (c .before .before .pivot-row .result) (c .before .before .before .before .loop-test .taken) (c .before .before .pivot-row .ensures .0) (c .if1 .taken)
+returns c =
+    let turn = c .before .before .before .before .before in
+    turn .loop .inv .4 ∙ columns-zero (c .before .before .before .before .before .before .before .before .before .args .n) (turn .loop .k) (turn .loop .rows) (take (turn .loop .k) (turn .loop .swaps)) (c .before .before .pivot-row .result) (c .before .before .before .before .loop-test .taken) (c .before .before .pivot-row .ensures .0) (c .if1 .taken)
 
 eliminate-column-requires : tie.Need-eliminate-column-requires Inv-loop μ-loop
-eliminate-column-requires c κs = (c .before .before .before .before .pivot-row .ensures .1, c .before .before .before .before .pivot-row .ensures .2, c .before .before .before .before .before .before .before .loop .inv .1, c .before .before .before .before .before .before .before .loop .inv .3)
+eliminate-column-requires c κs =
+    let turn = c .before .before .before .before .before .before .before in
+    let at-pivot-row = c .before .before .before .before in
+    (at-pivot-row .pivot-row .ensures .1, at-pivot-row .pivot-row .ensures .2, turn .loop .inv .1, turn .loop .inv .3)
 
 mul-swaps : tie.Need-mul-swaps Inv-loop μ-loop
 mul-swaps c = search needs
@@ -66,18 +76,21 @@ loop-less c = search needs
 
 loop-again : tie.Need-loop-again Inv-loop μ-loop
 loop-again c =
+    let turn = c .before .before .before .before .before .before .before .before .before .before .before .before in
+    let at-pivot-row = c .before .before .before .before .before .before .before .before .before in
+    let at-eliminate-column = c .before .before .before .before in
     let n = c .before .before .before .before .before .before .before .before .before .before .before .before .before .before .before .before .args .n in
-    let k = c .before .before .before .before .before .before .before .before .before .before .before .before .loop .k in
-    let s = c .before .before .before .before .before .before .before .before .before .before .before .before .loop .swaps in
-    let p = c .before .before .before .before .before .before .before .before .before .pivot-row .result in
-    let t = c .before .before .before .before .eliminate-column .last .1 .1 .1 .0 in
+    let k = turn .loop .k in
+    let s = turn .loop .swaps in
+    let p = at-pivot-row .pivot-row .result in
+    let t = at-eliminate-column .eliminate-column .last .1 .1 .1 .0 in
     let h : k < length s = omega arith in (
       omega arith,
-      c .before .before .before .rows .given ∙ c .before .before .before .before .before .before .before .before .before .before .before .before .loop .inv .1,
-      length-set s k p ∙ c .before .before .before .before .before .before .before .before .before .before .before .before .loop .inv .2,
-      c .before .pivot .given ∙ c .before .before .before .before .before .before .before .before .before .before .before .before .loop .inv .3,
-      c .before .before .before .before .before .before .before .before .before .before .before .before .loop .inv .4
-          ∙ columns-more n k (c .before .before .before .before .before .before .before .before .before .before .before .before .loop .rows) (take k s) p (c .before .before .before .before .before .before .before .before .before .before .before .loop-test .taken) (c .before .before .before .before .before .before .before .before .before .pivot-row .ensures .0) t (c .before .before .before .before .before .before .before .if1 .left) (c .before .before .before .before .eliminate-column .ensures) (c .before .before .before .before .before .before .before .before .before .pivot-row .ensures .1) (c .before .before .before .before .before .before .before .before .before .pivot-row .ensures .2) (c .before .before .before .before .before .before .before .before .before .before .before .before .loop .inv .1)
+      c .before .before .before .rows .given ∙ turn .loop .inv .1,
+      length-set s k p ∙ turn .loop .inv .2,
+      c .before .pivot .given ∙ turn .loop .inv .3,
+      turn .loop .inv .4
+          ∙ columns-more n k (turn .loop .rows) (take k s) p (c .before .before .before .before .before .before .before .before .before .before .before .loop-test .taken) (at-pivot-row .pivot-row .ensures .0) t (c .before .before .before .before .before .before .before .if1 .left) (at-eliminate-column .eliminate-column .ensures) (at-pivot-row .pivot-row .ensures .1) (at-pivot-row .pivot-row .ensures .2) (turn .loop .inv .1)
           ∙ ap (columns n (n - (k + 1)) (k + 1) t) (swaps-more k p s h),
     )
 

@@ -10,10 +10,14 @@ load-row-requires : tie.Need-load-row-requires
 load-row-requires c κs = (omega (arith, inside (c .before .before .before .before .args .p) (c .before .before .before .before .args .n) (c .before .before .before .before .pre .1)), c .before .before .before .before .pre .3)
 
 swap-rows-requires : tie.Need-swap-rows-requires
-swap-rows-requires c κs = (c .before .before .before .before .before .before .before .before .before .pre .0, c .before .before .before .before .before .before .before .before .before .pre .1, c .before .before .before .before .before .before .before .before .before .pre .2, c .before .before .before .pivot .given ∙ c .before .before .before .before .before .before .before .before .before .pre .3, c .before .before .before .before .load-row .ensures)
+swap-rows-requires c κs =
+    let start = c .before .before .before .before .before .before .before .before .before in
+    (start .pre .0, start .pre .1, start .pre .2, c .before .before .before .pivot .given ∙ start .pre .3, c .before .before .before .before .load-row .ensures)
 
 reduce-below-requires : tie.Need-reduce-below-requires
-reduce-below-requires c κs = (omega arith, c .before .before .before .rows .given ∙ c .before .before .before .before .before .before .before .before .before .before .before .before .before .before .pre .2, c .before .before .before .before .before .before .before .before .pivot .given ∙ c .before .before .before .before .before .before .before .before .before .before .before .before .before .before .pre .3)
+reduce-below-requires c κs =
+    let start = c .before .before .before .before .before .before .before .before .before .before .before .before .before .before in
+    (omega arith, c .before .before .before .rows .given ∙ start .pre .2, c .before .before .before .before .before .before .before .before .pivot .given ∙ start .pre .3)
 
 same-length : tie.Need-same-length
 same-length c = search needs

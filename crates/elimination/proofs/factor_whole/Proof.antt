@@ -27,7 +27,10 @@ same-length-2 : tie.Need-same-length-2
 same-length-2 c = search needs
 
 returns : tie.Need-returns
-returns c = factored-good (c .before .before .before .before .before .before .before .before .before .before .before .before .before .before .args .n) (c .before .before .before .before .before .before .before .before .before .before .before .before .before .before .args .rows .now) (c .before .before .before .before .before .before .before .before .eliminate .last .1 .0) (c .before .before .before .before .before .before .before .before .eliminate .last .1 .1 .0) (c .before .before .before .before .before .before .before .before .eliminate .result) (c .before .all-finite .result) (c .before .before .before .before .before .before .before .before .eliminate .ensures) (c .before .all-finite .ensures) (c .if1 .taken)
+returns c =
+    let start = c .before .before .before .before .before .before .before .before .before .before .before .before .before .before in
+    let at-eliminate = c .before .before .before .before .before .before .before .before in
+    factored-good (start .args .n) (start .args .rows .now) (at-eliminate .eliminate .last .1 .0) (at-eliminate .eliminate .last .1 .1 .0) (at-eliminate .eliminate .result) (c .before .all-finite .result) (at-eliminate .eliminate .ensures) (c .before .all-finite .ensures) (c .if1 .taken)
 
 clear-requires : tie.Need-clear-requires
 clear-requires c κs = search needs
@@ -42,7 +45,13 @@ same-length-4 : tie.Need-same-length-4
 same-length-4 c = search needs
 
 returns-2 : tie.Need-returns-2
-returns-2 c = factored-singular (c .before .before .before .before .before .before .before .before .before .before .before .before .before .before .before .before .before .before .before .before .before .before .before .args .n) (c .before .before .before .before .before .before .before .before .before .before .before .before .before .before .before .before .before .before .before .before .before .before .before .args .rows .now) (c .before .before .before .before .before .before .before .before .before .before .before .before .before .before .before .before .before .eliminate .last .1 .0) (c .before .before .before .before .before .before .before .before .before .before .before .before .before .before .before .before .before .eliminate .last .1 .1 .0) (c .before .before .before .before .before .before .before .before .before .before .before .before .before .before .before .before .before .eliminate .result) (c .before .before .before .before .before .before .before .before .before .before .all-finite .result) (c .before .before .before .before .before .before .before .before .before .before .before .before .before .before .before .before .before .eliminate .ensures) (c .before .before .before .before .before .before .before .before .before .before .all-finite .ensures) (c .before .before .before .before .before .before .before .before .before .if1 .left) (c .before .before .before .before .before .before .before .clear .last .0) (c .before .before .before .clear-swaps .last .0) (c .before .before .before .before .before .before .before .before .before .before .before .before .before .before .before .before .rows .given ∙ c .before .before .before .before .before .before .before .before .before .before .before .before .before .before .before .before .before .before .before .before .before .before .before .pre .1) (c .before .before .before .before .before .before .before .before .before .before .before .before .before .before .swaps .given ∙ c .before .before .before .before .before .before .before .before .before .before .before .before .before .before .before .before .before .before .before .before .before .before .before .pre .2) (c .before .before .before .before .before .before .before .clear .ensures) (c .before .before .before .clear-swaps .ensures) (c .if2 .taken)
+returns-2 c =
+    let start = c .before .before .before .before .before .before .before .before .before .before .before .before .before .before .before .before .before .before .before .before .before .before .before in
+    let at-eliminate = c .before .before .before .before .before .before .before .before .before .before .before .before .before .before .before .before .before in
+    let at-all-finite = c .before .before .before .before .before .before .before .before .before .before in
+    let at-clear = c .before .before .before .before .before .before .before in
+    let at-clear-swaps = c .before .before .before in
+    factored-singular (start .args .n) (start .args .rows .now) (at-eliminate .eliminate .last .1 .0) (at-eliminate .eliminate .last .1 .1 .0) (at-eliminate .eliminate .result) (at-all-finite .all-finite .result) (at-eliminate .eliminate .ensures) (at-all-finite .all-finite .ensures) (c .before .before .before .before .before .before .before .before .before .if1 .left) (at-clear .clear .last .0) (at-clear-swaps .clear-swaps .last .0) (c .before .before .before .before .before .before .before .before .before .before .before .before .before .before .before .before .rows .given ∙ start .pre .1) (c .before .before .before .before .before .before .before .before .before .before .before .before .before .before .swaps .given ∙ start .pre .2) (at-clear .clear .ensures) (at-clear-swaps .clear-swaps .ensures) (c .if2 .taken)
 
 same-length-5 : tie.Need-same-length-5
 same-length-5 c = search needs
@@ -51,7 +60,13 @@ same-length-6 : tie.Need-same-length-6
 same-length-6 c = search needs
 
 returns-3 : tie.Need-returns-3
-returns-3 c = factored-wild (c .before .before .before .before .before .before .before .before .before .before .before .before .before .before .before .before .before .before .before .before .before .before .before .args .n) (c .before .before .before .before .before .before .before .before .before .before .before .before .before .before .before .before .before .before .before .before .before .before .before .args .rows .now) (c .before .before .before .before .before .before .before .before .before .before .before .before .before .before .before .before .before .eliminate .last .1 .0) (c .before .before .before .before .before .before .before .before .before .before .before .before .before .before .before .before .before .eliminate .last .1 .1 .0) (c .before .before .before .before .before .before .before .before .before .before .before .before .before .before .before .before .before .eliminate .result) (c .before .before .before .before .before .before .before .before .before .before .all-finite .result) (c .before .before .before .before .before .before .before .before .before .before .before .before .before .before .before .before .before .eliminate .ensures) (c .before .before .before .before .before .before .before .before .before .before .all-finite .ensures) (c .before .before .before .before .before .before .before .before .before .if1 .left) (c .before .before .before .before .before .before .before .clear .last .0) (c .before .before .before .clear-swaps .last .0) (c .before .before .before .before .before .before .before .before .before .before .before .before .before .before .before .before .rows .given ∙ c .before .before .before .before .before .before .before .before .before .before .before .before .before .before .before .before .before .before .before .before .before .before .before .pre .1) (c .before .before .before .before .before .before .before .before .before .before .before .before .before .before .swaps .given ∙ c .before .before .before .before .before .before .before .before .before .before .before .before .before .before .before .before .before .before .before .before .before .before .before .pre .2) (c .before .before .before .before .before .before .before .clear .ensures) (c .before .before .before .clear-swaps .ensures) (c .if2 .left)
+returns-3 c =
+    let start = c .before .before .before .before .before .before .before .before .before .before .before .before .before .before .before .before .before .before .before .before .before .before .before in
+    let at-eliminate = c .before .before .before .before .before .before .before .before .before .before .before .before .before .before .before .before .before in
+    let at-all-finite = c .before .before .before .before .before .before .before .before .before .before in
+    let at-clear = c .before .before .before .before .before .before .before in
+    let at-clear-swaps = c .before .before .before in
+    factored-wild (start .args .n) (start .args .rows .now) (at-eliminate .eliminate .last .1 .0) (at-eliminate .eliminate .last .1 .1 .0) (at-eliminate .eliminate .result) (at-all-finite .all-finite .result) (at-eliminate .eliminate .ensures) (at-all-finite .all-finite .ensures) (c .before .before .before .before .before .before .before .before .before .if1 .left) (at-clear .clear .last .0) (at-clear-swaps .clear-swaps .last .0) (c .before .before .before .before .before .before .before .before .before .before .before .before .before .before .before .before .rows .given ∙ start .pre .1) (c .before .before .before .before .before .before .before .before .before .before .before .before .before .before .swaps .given ∙ start .pre .2) (at-clear .clear .ensures) (at-clear-swaps .clear-swaps .ensures) (c .if2 .left)
 
 pub factor-whole-spec : {M : Type 1} → statement M
 factor-whole-spec =

@@ -35,11 +35,12 @@ same-length c = search needs
 
 returns : tie.Need-returns
 returns c =
-    let n = c .before .before .before .before .before .before .before .args .n in
-    let a = c .before .before .before .before .before .before .before .args .rows .now in
-    let e = part-row n (c .before .before .before .before .before .before .before .args .i) a (c .before .before .before .before .before .before .before .args .i * n) refl in
-    let l : length (row n (c .before .before .before .before .before .before .before .args .i) a) ≡ n = part-length n (c .before .before .before .before .before .before .before .args .i * n) a (c .before .before .before .before .before .before .before .pre .0) in
-    c .before .before .copy .ensures ∙ ap (overlaid (c .before .before .before .before .before .before .before .args .to .now)) e ∙ overlaid-part (c .before .before .before .before .before .before .before .args .to .now) (row n (c .before .before .before .before .before .before .before .args .i) a) n (c .before .before .before .before .before .before .before .pre .1) l
+    let start = c .before .before .before .before .before .before .before in
+    let n = start .args .n in
+    let a = start .args .rows .now in
+    let e = part-row n (start .args .i) a (start .args .i * n) refl in
+    let l : length (row n (start .args .i) a) ≡ n = part-length n (start .args .i * n) a (start .pre .0) in
+    c .before .before .copy .ensures ∙ ap (overlaid (start .args .to .now)) e ∙ overlaid-part (start .args .to .now) (row n (start .args .i) a) n (start .pre .1) l
 
 pub load-row-spec : {M : Type 1} → statement M
 load-row-spec =

@@ -50,7 +50,9 @@ loop-less : tie.Need-loop-less Inv-loop μ-loop
 loop-less c = search needs
 
 loop-again : tie.Need-loop-again Inv-loop μ-loop
-loop-again c = (omega arith, simp length-set (c .before .before .loop .inv .1), moved-more (c .before .before .before .args .n) (c .before .before .before .args .from) (c .before .before .before .args .to) (c .before .before .before .args .rows .now) (c .before .before .before .pre .0) (c .before .before .before .pre .1) (c .before .before .loop .j) (c .before .before .loop .rows) (c .before .loop-test .taken) (c .before .before .loop .inv .2))
+loop-again c =
+    let start = c .before .before .before in
+    (omega arith, simp length-set (c .before .before .loop .inv .1), moved-more (start .args .n) (start .args .from) (start .args .to) (start .args .rows .now) (start .pre .0) (start .pre .1) (c .before .before .loop .j) (c .before .before .loop .rows) (c .before .loop-test .taken) (c .before .before .loop .inv .2))
 
 same-length : tie.Need-same-length Inv-loop μ-loop
 same-length c = search needs

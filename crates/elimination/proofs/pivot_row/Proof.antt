@@ -44,7 +44,9 @@ add-at-2 : tie.Need-add-at-2 Inv-loop μ-loop
 add-at-2 c = let h = inside (c .before .loop .i) (c .before .before .before .before .before .args .n) (c .loop-test .taken) in omega arith
 
 mul-absolute-value-2 : tie.Need-mul-absolute-value-2 Inv-loop μ-loop
-mul-absolute-value-2 c = let h = inside (c .before .loop .i) (c .before .before .before .before .before .args .n) (c .loop-test .taken) in let g : c .before .loop .at + c .before .before .before .before .before .args .n < length (c .before .before .before .before .before .args .rows .now) = omega arith in search needs
+mul-absolute-value-2 c =
+    let start = c .before .before .before .before .before in
+    let h = inside (c .before .loop .i) (start .args .n) (c .loop-test .taken) in let g : c .before .loop .at + start .args .n < length (start .args .rows .now) = omega arith in search needs
 
 shared-slice-read-absolute-value-2 : tie.Need-shared-slice-read-absolute-value-2 Inv-loop μ-loop
 shared-slice-read-absolute-value-2 c = let h = inside (c .before .before .loop .i) (c .before .before .before .before .before .before .args .n) (c .before .loop-test .taken) in omega arith
@@ -60,20 +62,25 @@ loop-less c = search needs
 
 loop-again : tie.Need-loop-again Inv-loop μ-loop
 loop-again c =
-    let n = c .before .before .before .before .before .before .before .before .args .n in
-    let k = c .before .before .before .before .before .before .before .before .args .k in
-    let a = c .before .before .before .before .before .before .before .before .args .rows .now in
-    let i = c .before .before .before .before .loop .i in
-    let p = c .before .before .before .before .loop .p in
+    let start = c .before .before .before .before .before .before .before .before in
+    let turn = c .before .before .before .before in
+    let at-loop-test = c .before .before .before in
+    let n = start .args .n in
+    let k = start .args .k in
+    let a = start .args .rows .now in
+    let i = turn .loop .i in
+    let p = turn .loop .p in
     let w2 = c .before .absolute-value2 .result in
-    let ew : w2 ≡ absolute (entry n i k a) = c .before .absolute-value2 .ensures ∙ ap (λ (j : ℕ). absolute (getD a j nan)) (c .before .before .before .before .loop .inv .4) in
+    let ew : w2 ≡ absolute (entry n i k a) = c .before .absolute-value2 .ensures ∙ ap (λ (j : ℕ). absolute (getD a j nan)) (turn .loop .inv .4) in
     ⊎-elim
-    (λ w. (omega arith, omega arith, omega arith, omega arith, omega (arith, next i n), w .2 ∙ ew ∙ ap (λ (j : ℕ). absolute (entry n j k a)) (sym (w .1)), c .before .before .before .before .loop .inv .6 ∙ greatest-more n k a i p (c .before .before .before .loop-test .taken) (c .before .before .before .before .loop .greatest) w2 (c .before .before .before .before .loop .inv .5) ew true (c .if1 .p) (w .0 .taken) (w .1)))
-    (λ w. (omega arith, omega arith, omega arith, omega arith, omega (arith, next i n), w .2 ∙ c .before .before .before .before .loop .inv .5 ∙ ap (λ (j : ℕ). absolute (entry n j k a)) (sym (w .1)), c .before .before .before .before .loop .inv .6 ∙ greatest-more n k a i p (c .before .before .before .loop-test .taken) (c .before .before .before .before .loop .greatest) w2 (c .before .before .before .before .loop .inv .5) ew false (c .if1 .p) (w .0 .left) (w .1)))
+    (λ w. (omega arith, omega arith, omega arith, omega arith, omega (arith, next i n), w .2 ∙ ew ∙ ap (λ (j : ℕ). absolute (entry n j k a)) (sym (w .1)), turn .loop .inv .6 ∙ greatest-more n k a i p (at-loop-test .loop-test .taken) (turn .loop .greatest) w2 (turn .loop .inv .5) ew true (c .if1 .p) (w .0 .taken) (w .1)))
+    (λ w. (omega arith, omega arith, omega arith, omega arith, omega (arith, next i n), w .2 ∙ turn .loop .inv .5 ∙ ap (λ (j : ℕ). absolute (entry n j k a)) (sym (w .1)), turn .loop .inv .6 ∙ greatest-more n k a i p (at-loop-test .loop-test .taken) (turn .loop .greatest) w2 (turn .loop .inv .5) ew false (c .if1 .p) (w .0 .left) (w .1)))
     (c .if1 .came)
 
 returns : tie.Need-returns Inv-loop μ-loop
-returns c = (sym (c .before .loop .inv .6 ∙ greatest-end (c .before .before .before .before .before .args .n) (c .before .before .before .before .before .args .k) (c .before .before .before .before .before .args .rows .now) (c .before .loop .i) (c .before .loop .p) (omega arith)), omega arith, omega arith)
+returns c =
+    let start = c .before .before .before .before .before in
+    (sym (c .before .loop .inv .6 ∙ greatest-end (start .args .n) (start .args .k) (start .args .rows .now) (c .before .loop .i) (c .before .loop .p) (omega arith)), omega arith, omega arith)
 
 pub pivot-row-spec : {M : Type 1} → statement M
 pivot-row-spec =

@@ -58,26 +58,30 @@ loop-less c = search needs
 
 loop-again : tie.Need-loop-again Inv-loop μ-loop
 loop-again c =
-    let n = c .before .before .before .before .before .before .before .before .args .n in
-    let k = c .before .before .before .before .before .before .before .before .args .k in
-    let p = c .before .before .before .before .before .before .before .before .args .pivot .now in
-    let i = c .before .before .before .before .before .loop .i in
-    let at = c .before .before .before .before .before .loop .at in
-    let a = c .before .before .before .before .before .loop .rows in
+    let start = c .before .before .before .before .before .before .before .before in
+    let turn = c .before .before .before .before .before in
+    let n = start .args .n in
+    let k = start .args .k in
+    let p = start .args .pivot .now in
+    let i = turn .loop .i in
+    let at = turn .loop .at in
+    let a = turn .loop .rows in
     let y = c .before .before .reduce-row .last .1 .0 in (
       omega arith,
       omega arith,
-      c .before .rows .given .1 ∙ c .before .before .before .before .before .loop .inv .2,
+      c .before .rows .given .1 ∙ turn .loop .inv .2,
       omega (arith, next i n),
-      c .before .before .before .before .before .loop .inv .4 ∙ reduced-more n k p i a (c .before .before .before .before .loop-test .taken)
-          ∙ ap (reduced n k p (n - (i + 1)) (i + 1)) (sym (put-back n i a at y (c .before .before .before .before .before .loop .inv .3) ∙ ap (λ (r : List Float). withRow n i r a) (c .before .before .reduce-row .ensures ∙ ap (reducedRow k p) (part-row n i a at (c .before .before .before .before .before .loop .inv .3))))),
+      turn .loop .inv .4 ∙ reduced-more n k p i a (c .before .before .before .before .loop-test .taken)
+          ∙ ap (reduced n k p (n - (i + 1)) (i + 1)) (sym (put-back n i a at y (turn .loop .inv .3) ∙ ap (λ (r : List Float). withRow n i r a) (c .before .before .reduce-row .ensures ∙ ap (reducedRow k p) (part-row n i a at (turn .loop .inv .3))))),
     )
 
 same-length : tie.Need-same-length Inv-loop μ-loop
 same-length c = search needs
 
 returns : tie.Need-returns Inv-loop μ-loop
-returns c = sym (c .before .loop .inv .4 ∙ reduced-end (c .before .before .before .before .args .n) (c .before .before .before .before .args .k) (c .before .before .before .before .args .pivot .now) (c .before .loop .i) (c .before .loop .rows) (c .loop-test .left))
+returns c =
+    let start = c .before .before .before .before in
+    sym (c .before .loop .inv .4 ∙ reduced-end (start .args .n) (start .args .k) (start .args .pivot .now) (c .before .loop .i) (c .before .loop .rows) (c .loop-test .left))
 
 pub reduce-below-spec : {M : Type 1} → statement M
 reduce-below-spec =

@@ -54,13 +54,22 @@ part-take-away-end-2 : tie.Need-part-take-away-end-2
 part-take-away-end-2 c = search needs
 
 take-away-requires : tie.Need-take-away-requires
-take-away-requires c κs = let k = c .before .before .before .before .before .before .args .k in let r = c .before .before .before .before .before .before .args .row .now in let p = c .before .before .before .before .before .before .args .pivot .now in right-parts k r p r (factorOf k p r) (c .before .before .before .before .before .before .pre .0) (c .before .before .before .before .before .before .pre .1)
+take-away-requires c κs =
+    let start = c .before .before .before .before .before .before in
+    right-parts (start .args .k) (start .args .row .now) (start .args .pivot .now) _ (start .pre .0) (start .pre .1)
 
 same-length : tie.Need-same-length
-same-length c = c .before .row .given .1 ∙ length-set (c .before .before .before .before .before .before .before .before .before .args .row .now) (c .before .before .before .before .before .before .before .before .before .args .k) (factorOf (c .before .before .before .before .before .before .before .before .before .args .k) (c .before .before .before .before .before .before .before .before .before .args .pivot .now) (c .before .before .before .before .before .before .before .before .before .args .row .now))
+same-length c =
+    let start = c .before .before .before .before .before .before .before .before .before in
+    c .before .row .given .1 ∙ length-set (start .args .row .now) (start .args .k) _
 
 returns : tie.Need-returns
-returns c = let k = c .before .before .before .before .before .before .before .before .before .args .k in let r = c .before .before .before .before .before .before .before .before .before .args .row .now in let p = c .before .before .before .before .before .before .before .before .before .args .pivot .now in row-law k r p (c .before .before .take-away .last .0) (factorOf k p r) (c .before .before .before .before .before .before .before .before .before .pre .0) (c .before .before .before .before .before .before .before .before .before .pre .1) refl (c .before .before .take-away .ensures)
+returns c =
+    let start = c .before .before .before .before .before .before .before .before .before in
+    let k = start .args .k in
+    let r = start .args .row .now in
+    let p = start .args .pivot .now in
+    row-law k r p (factorOf k p r) (start .pre .0) (start .pre .1) (c .before .before .take-away .last .0) refl (c .before .before .take-away .ensures)
 
 pub reduce-row-spec : {M : Type 1} → statement M
 reduce-row-spec =

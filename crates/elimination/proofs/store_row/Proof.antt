@@ -37,12 +37,13 @@ same-length c = search needs
 
 returns : tie.Need-returns
 returns c =
-    let n = c .before .before .before .before .before .before .args .n in
-    let i = c .before .before .before .before .before .before .args .i in
-    let a = c .before .before .before .before .before .before .args .rows .now in
-    let l : length (row n i a) ≡ n = part-length n (i * n) a (c .before .before .before .before .before .before .pre .0) in
+    let start = c .before .before .before .before .before .before in
+    let n = start .args .n in
+    let i = start .args .i in
+    let a = start .args .rows .now in
+    let l : length (row n i a) ≡ n = part-length n (i * n) a (start .pre .0) in
     put-back n i a (i * n) (c .before .before .copy .last .0) refl
-    ∙ ap (λ (r : List Float). withRow n i r a) (c .before .before .copy .ensures ∙ ap (λ (r : List Float). overlaid r (c .before .before .before .before .before .before .args .from .now)) (part-row n i a (i * n) refl) ∙ overlaid-part (row n i a) (c .before .before .before .before .before .before .args .from .now) n l (c .before .before .before .before .before .before .pre .1))
+    ∙ ap (λ (r : List Float). withRow n i r a) (c .before .before .copy .ensures ∙ ap (λ (r : List Float). overlaid r (start .args .from .now)) (part-row n i a (i * n) refl) ∙ overlaid-part (row n i a) (start .args .from .now) n l (start .pre .1))
 
 pub store-row-spec : {M : Type 1} → statement M
 store-row-spec =

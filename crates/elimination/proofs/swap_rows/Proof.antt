@@ -11,10 +11,14 @@ returns : tie.Need-returns
 returns c = sym (swapped-same (c .before .before .before .args .n) (c .before .before .before .args .k) (c .before .before .before .args .p) (c .before .before .before .args .rows .now) (c .if1 .taken))
 
 move-row-requires : tie.Need-move-row-requires
-move-row-requires c κs = (strictly (c .before .before .before .before .args .k) (c .before .before .before .before .args .p) (c .before .before .before .before .pre .0) (c .before .if1 .left), omega (arith, inside (c .before .before .before .before .args .p) (c .before .before .before .before .args .n) (c .before .before .before .before .pre .1)))
+move-row-requires c κs =
+    let start = c .before .before .before .before in
+    (strictly (start .args .k) (start .args .p) (start .pre .0) (c .before .if1 .left), omega (arith, inside (start .args .p) (start .args .n) (start .pre .1)))
 
 store-row-requires : tie.Need-store-row-requires
-store-row-requires c κs = let h : c .before .before .before .before .before .before .before .before .args .k < c .before .before .before .before .before .before .before .before .args .n = omega arith in (omega (arith, inside (c .before .before .before .before .before .before .before .before .args .k) (c .before .before .before .before .before .before .before .before .args .n) h, c .before .before .rows .given), c .before .before .before .before .before .before .before .before .pre .3)
+store-row-requires c κs =
+    let start = c .before .before .before .before .before .before .before .before in
+    let h : start .args .k < start .args .n = omega arith in (omega (arith, inside (start .args .k) (start .args .n) h, c .before .before .rows .given), start .pre .3)
 
 same-length : tie.Need-same-length
 same-length c = search needs

@@ -44,7 +44,10 @@ loop-less : tie.Need-loop-less Inv-loop μ-loop
 loop-less c = search needs
 
 loop-again : tie.Need-loop-again Inv-loop μ-loop
-loop-again c = (omega arith, simp length-set (c .before .before .before .loop .inv .1), zipped-more (less (c .before .before .before .before .args .factor)) (c .before .before .before .loop .j) (c .before .before .before .before .args .row .now) (c .before .before .before .before .args .pivot .now) nan (c .before .before .before .loop .row) (c .before .before .before .loop .inv .2) (omega arith) (omega arith))
+loop-again c =
+    let start = c .before .before .before .before in
+    let turn = c .before .before .before in
+    (omega arith, simp length-set (turn .loop .inv .1), zipped-more (less (start .args .factor)) (turn .loop .j) (start .args .row .now) (start .args .pivot .now) nan (turn .loop .row) (turn .loop .inv .2) (omega arith) (omega arith))
 
 same-length : tie.Need-same-length Inv-loop μ-loop
 same-length c = search needs

@@ -37,7 +37,10 @@ loop-less : tie.Need-loop-less Inv-loop μ-loop
 loop-less c = search needs
 
 loop-again : tie.Need-loop-again Inv-loop μ-loop
-loop-again c = (omega arith, c .before .before .before .loop .inv .1 ∙ products-more (c .before .before .before .before .args .row .now) (c .before .before .before .before .args .x .now) (c .before .before .before .loop .j) (c .before .before .before .loop .value) (omega arith) (omega arith))
+loop-again c =
+    let start = c .before .before .before .before in
+    let turn = c .before .before .before in
+    (omega arith, turn .loop .inv .1 ∙ products-more (start .args .row .now) (start .args .x .now) (turn .loop .j) (turn .loop .value) (omega arith) (omega arith))
 
 returns : tie.Need-returns Inv-loop μ-loop
 returns c = sym (c .before .loop .inv .1 ∙ products-end (c .before .before .args .row .now) (c .before .before .args .x .now) (c .before .loop .j) (c .before .loop .value) (c .loop-test .left))

@@ -34,7 +34,10 @@ loop-less : tie.Need-loop-less Inv-loop μ-loop
 loop-less c = search needs
 
 loop-again : tie.Need-loop-again Inv-loop μ-loop
-loop-again c = (omega arith, c .before .x .given ∙ c .before .before .before .before .before .before .loop .inv .1, c .before .before .before .before .before .before .loop .inv .2 ∙ permuted-more (c .before .before .before .before .before .before .loop .k) (c .before .before .before .before .before .before .before .before .before .args .swaps .now) (c .before .before .before .before .before .before .loop .x) (c .before .before .before .before .before .loop-test .taken) ∙ ap (permuted (c .before .before .before .before .before .before .loop .k + 1) (drop (c .before .before .before .before .before .before .loop .k + 1) (c .before .before .before .before .before .before .before .before .before .args .swaps .now))) (sym (c .before .before .exchange .ensures)))
+loop-again c =
+    let start = c .before .before .before .before .before .before .before .before .before in
+    let turn = c .before .before .before .before .before .before in
+    (omega arith, c .before .x .given ∙ turn .loop .inv .1, turn .loop .inv .2 ∙ permuted-more (turn .loop .k) (start .args .swaps .now) (turn .loop .x) (c .before .before .before .before .before .loop-test .taken) ∙ ap (permuted (turn .loop .k + 1) (drop (turn .loop .k + 1) (start .args .swaps .now))) (sym (c .before .before .exchange .ensures)))
 
 same-length : tie.Need-same-length Inv-loop μ-loop
 same-length c = search needs

@@ -12,10 +12,14 @@ square-fits-requires : tie.Need-square-fits-requires
 square-fits-requires c κs = search needs
 
 returns : tie.Need-returns
-returns c = refused-one (c .before .before .before .before .args .n) (c .before .before .before .before .args .matrix .now) (c .before .before .before .before .args .right .now) (c .before .before .before .before .args .room) (c .before .square-fits .result) (c .before .square-fits .ensures) (not-true _ (c .if1 .taken))
+returns c =
+    let start = c .before .before .before .before in
+    refused-one (start .args .n) (start .args .matrix .now) (start .args .right .now) (start .args .room) (c .before .square-fits .result) (c .before .square-fits .ensures) (not-true _ (c .if1 .taken))
 
 returns-2 : tie.Need-returns-2
-returns-2 c = refused-two (c .before .before .before .before .before .args .n) (c .before .before .before .before .before .args .matrix .now) (c .before .before .before .before .before .args .right .now) (c .before .before .before .before .before .args .room) (c .before .before .square-fits .result) (c .before .before .square-fits .ensures) (not-false _ (c .before .if1 .left)) (c .if2 .taken)
+returns-2 c =
+    let start = c .before .before .before .before .before in
+    refused-two (start .args .n) (start .args .matrix .now) (start .args .right .now) (start .args .room) (c .before .before .square-fits .result) (c .before .before .square-fits .ensures) (not-false _ (c .before .if1 .left)) (c .if2 .taken)
 
 mul-nn : tie.Need-mul-nn
 mul-nn c = omega (arith, square-mono (c .before .before .before .before .before .args .n) dofLimit (c .if2 .left))
@@ -27,7 +31,9 @@ part-all-finite-start : tie.Need-part-all-finite-start
 part-all-finite-start c = search needs
 
 part-all-finite-end : tie.Need-part-all-finite-end
-part-all-finite-end c = fits-matrix (c .before .before .before .before .before .args .n) (c .before .before .before .before .before .args .matrix .now) (c .before .before .before .before .before .args .right .now) (c .before .before .before .before .before .args .room) (c .before .before .square-fits .result) (c .before .before .square-fits .ensures) (not-false _ (c .before .if1 .left))
+part-all-finite-end c =
+    let start = c .before .before .before .before .before in
+    fits-matrix (start .args .n) (start .args .matrix .now) (start .args .right .now) (start .args .room) (c .before .before .square-fits .result) (c .before .before .square-fits .ensures) (not-false _ (c .before .if1 .left))
 
 all-finite-requires : tie.Need-all-finite-requires
 all-finite-requires c κs = search needs
@@ -39,7 +45,10 @@ part-all-finite-start-2 : tie.Need-part-all-finite-start-2
 part-all-finite-start-2 c = search needs
 
 part-all-finite-end-2 : tie.Need-part-all-finite-end-2
-part-all-finite-end-2 c = fits-right (c .before .before .before .before .before .before .before .args .n) (c .before .before .before .before .before .before .before .args .matrix .now) (c .before .before .before .before .before .before .before .args .right .now) (c .before .before .before .before .before .before .before .args .room) (c .before .before .before .before .square-fits .result) (c .before .before .before .before .square-fits .ensures) (not-false _ (c .before .before .before .if1 .left))
+part-all-finite-end-2 c =
+    let start = c .before .before .before .before .before .before .before in
+    let at-square-fits = c .before .before .before .before in
+    fits-right (start .args .n) (start .args .matrix .now) (start .args .right .now) (start .args .room) (at-square-fits .square-fits .result) (at-square-fits .square-fits .ensures) (not-false _ (c .before .before .before .if1 .left))
 
 all-finite-requires-2 : tie.Need-all-finite-requires-2
 all-finite-requires-2 c κs = search needs
@@ -48,7 +57,11 @@ unless-requires : tie.Need-unless-requires
 unless-requires c κs = search needs
 
 returns-3 : tie.Need-returns-3
-returns-3 c = refused-seven (c .before .before .before .before .before .before .before .before .before .before .args .n) (c .before .before .before .before .before .before .before .before .before .before .args .matrix .now) (c .before .before .before .before .before .before .before .before .before .before .args .right .now) (c .before .before .before .before .before .before .before .before .before .before .args .room) (c .before .before .before .before .before .before .before .square-fits .result) (c .before .before .before .before .before .before .before .square-fits .ensures) (not-false _ (c .before .before .before .before .before .before .if1 .left)) (c .before .before .before .before .before .if2 .left) (c .unless .result) (c .before .before .before .all-finite .result) (c .before .all-finite2 .result) (c .before .before .before .all-finite .ensures) (c .before .all-finite2 .ensures) (c .unless .ensures)
+returns-3 c =
+    let start = c .before .before .before .before .before .before .before .before .before .before in
+    let at-square-fits = c .before .before .before .before .before .before .before in
+    let at-all-finite = c .before .before .before in
+    refused-seven (start .args .n) (start .args .matrix .now) (start .args .right .now) (start .args .room) (at-square-fits .square-fits .result) (at-square-fits .square-fits .ensures) (not-false _ (c .before .before .before .before .before .before .if1 .left)) (c .before .before .before .before .before .if2 .left) (c .unless .result) (at-all-finite .all-finite .result) (c .before .all-finite2 .result) (at-all-finite .all-finite .ensures) (c .before .all-finite2 .ensures) (c .unless .ensures)
 
 pub refuse-spec : {M : Type 1} → statement M
 refuse-spec =

@@ -32,7 +32,11 @@ same-length-2 : tie.Need-same-length-2
 same-length-2 c = search needs
 
 returns : tie.Need-returns
-returns c = solve-trouble (c .before .before .before .before .before .before .before .before .before .before .before .before .before .before .before .before .before .before .args .n) (c .before .before .before .before .before .before .before .before .before .before .before .before .before .before .before .before .before .before .args .matrix .now) (c .before .before .before .before .before .before .before .before .before .before .before .before .before .before .before .before .before .before .args .right .now) (c .before .before .before .before .before .before .before .before .before .before .before .before .before .before .before .before .before .before .args .result .now) (c .before .before .before .before .before .before .before .before .before .before .before .before .before .before .before .before .before .before .args .rows .now) (c .before .before .before .before .before .before .before .before .before .before .copy .last .0) (c .before .before .before .before .before .factor .last .1 .0) (c .before .before .before .before .before .before .before .before .before .before .before .before .before .before .before .before .before .before .args .swaps .now) (c .before .before .before .before .before .factor .last .1 .1 .0) (c .before .before .before .before .before .factor .result) (c .before .before .before .before .before .before .before .before .before .before .before .before .before .before .before .before .before .before .pre .0) (c .before .before .before .before .before .before .before .before .before .before .before .before .before .before .before .before .before .before .pre .1) (c .before .before .before .before .before .before .before .before .before .before .before .before .before .before .before .before .before .before .pre .4) (c .before .before .before .before .before .before .before .before .before .before .before .before .before .before .before .before .before .before .pre .5) (c .before .before .before .before .before .before .before .before .before .before .copy .ensures) (c .before .before .before .before .before .before .before .before .before .rows .given) (c .before .before .before .before .rows2 .given) (c .before .before .swaps .given) (c .before .before .before .before .before .factor .ensures) (c .if1 .taken)
+returns c =
+    let start = c .before .before .before .before .before .before .before .before .before .before .before .before .before .before .before .before .before .before in
+    let at-copy = c .before .before .before .before .before .before .before .before .before .before in
+    let at-factor = c .before .before .before .before .before in
+    solve-trouble (start .args .n) (start .args .matrix .now) (start .args .right .now) (start .args .result .now) (start .args .rows .now) (at-copy .copy .last .0) (at-factor .factor .last .1 .0) (start .args .swaps .now) (at-factor .factor .last .1 .1 .0) (at-factor .factor .result) (start .pre .0) (start .pre .1) (start .pre .4) (start .pre .5) (at-copy .copy .ensures) (c .before .before .before .before .before .before .before .before .before .rows .given) (c .before .before .before .before .rows2 .given) (c .before .before .swaps .given) (at-factor .factor .ensures) (c .if1 .taken)
 
 substitute-requires : tie.Need-substitute-requires
 substitute-requires c κs = search needs
@@ -47,7 +51,11 @@ same-length-5 : tie.Need-same-length-5
 same-length-5 c = search needs
 
 returns-2 : tie.Need-returns-2
-returns-2 c = solve-good (c .before .before .before .before .before .before .before .before .before .before .before .before .before .before .before .before .before .before .before .before .before .before .before .before .args .n) (c .before .before .before .before .before .before .before .before .before .before .before .before .before .before .before .before .before .before .before .before .before .before .before .before .args .matrix .now) (c .before .before .before .before .before .before .before .before .before .before .before .before .before .before .before .before .before .before .before .before .before .before .before .before .args .right .now) (c .before .before .before .before .before .before .before .before .before .before .before .before .before .before .before .before .before .before .before .before .before .before .before .before .args .result .now) (c .before .before .before .before .before .before .before .before .before .before .before .before .before .before .before .before .before .before .before .before .before .before .before .before .args .rows .now) (c .before .before .before .before .before .before .before .before .before .before .before .before .before .before .before .before .copy .last .0) (c .before .before .before .before .before .before .before .before .before .before .before .factor .last .1 .0) (c .before .before .before .before .before .before .before .before .before .before .before .before .before .before .before .before .before .before .before .before .before .before .before .before .args .swaps .now) (c .before .before .before .before .before .before .before .before .before .before .before .factor .last .1 .1 .0) (c .before .before .before .before .before .before .before .before .before .before .before .factor .result) (c .before .before .before .before .before .before .before .before .before .before .before .before .before .before .before .before .before .before .before .before .before .before .before .before .pre .0) (c .before .before .before .before .before .before .before .before .before .before .before .before .before .before .before .before .before .before .before .before .before .before .before .before .pre .1) (c .before .before .before .before .before .before .before .before .before .before .before .before .before .before .before .before .before .before .before .before .before .before .before .before .pre .4) (c .before .before .before .before .before .before .before .before .before .before .before .before .before .before .before .before .before .before .before .before .before .before .before .before .pre .5) (c .before .before .before .before .before .before .before .before .before .before .before .before .before .before .before .before .copy .ensures) (c .before .before .before .before .before .before .before .before .before .before .before .before .before .before .before .rows .given) (c .before .before .before .before .before .before .before .before .before .before .rows2 .given) (c .before .before .before .before .before .before .before .before .swaps .given) (c .before .before .before .before .before .before .before .before .before .before .before .factor .ensures) (c .before .before .before .before .before .before .if1 .left) (c .before .before .before .before .before .before .before .before .before .before .before .before .before .before .before .before .before .before .before .before .before .before .before .before .pre .2) (c .before .before .before .before .before .before .before .before .before .before .before .before .before .before .before .before .before .before .before .before .before .before .before .before .pre .3) _ (c .before .before .substitute .ensures)
+returns-2 c =
+    let start = c .before .before .before .before .before .before .before .before .before .before .before .before .before .before .before .before .before .before .before .before .before .before .before .before in
+    let at-copy = c .before .before .before .before .before .before .before .before .before .before .before .before .before .before .before .before in
+    let at-factor = c .before .before .before .before .before .before .before .before .before .before .before in
+    solve-good (start .args .n) (start .args .matrix .now) (start .args .right .now) (start .args .result .now) (start .args .rows .now) (at-copy .copy .last .0) (at-factor .factor .last .1 .0) (start .args .swaps .now) (at-factor .factor .last .1 .1 .0) (at-factor .factor .result) (start .pre .0) (start .pre .1) (start .pre .4) (start .pre .5) (at-copy .copy .ensures) (c .before .before .before .before .before .before .before .before .before .before .before .before .before .before .before .rows .given) (c .before .before .before .before .before .before .before .before .before .before .rows2 .given) (c .before .before .before .before .before .before .before .before .swaps .given) (at-factor .factor .ensures) (c .before .before .before .before .before .before .if1 .left) (start .pre .2) (start .pre .3) _ (c .before .before .substitute .ensures)
 
 pub solve-in-spec : {M : Type 1} → statement M
 solve-in-spec =

@@ -12,7 +12,9 @@ slice-aggregate-solve-in-2 : tie.Need-slice-aggregate-solve-in-2
 slice-aggregate-solve-in-2 c = search needs
 
 solve-in-requires : tie.Need-solve-in-requires
-solve-in-requires c κs = (c .before .before .before .before .before .before .pre .0, c .before .before .before .before .before .before .pre .1, c .before .before .before .before .before .before .pre .2, c .before .before .before .before .before .before .pre .3, buffer-room dofLimit (c .before .before .before .before .before .before .args .n) (c .before .before .before .before .before .before .pre .0), c .before .before .before .before .before .before .pre .0)
+solve-in-requires c κs =
+    let start = c .before .before .before .before .before .before in
+    (start .pre .0, start .pre .1, start .pre .2, start .pre .3, buffer-room dofLimit (start .args .n) (start .pre .0), start .pre .0)
 
 same-length : tie.Need-same-length
 same-length c = search needs

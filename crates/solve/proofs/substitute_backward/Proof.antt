@@ -6,7 +6,6 @@ use Prim.Native.Nat.{_*_, _+_, _-_, _<_, _≤_}
 use mathlib.Core.Path.{_∙_, _≡_, sym}
 use native.Mathlib.Omega.{arith}
 use borrow.Author.Needs.{needs}
-use Rattle.elimination.proofs.Rows.{next, inside}
 use Rattle.solve.proofs.substitute_backward.Statement.{statement}
 use Rattle.solve.proofs.substitute_backward.Tie as tie
 
@@ -38,7 +37,9 @@ add-less-products : tie.Need-add-less-products Inv-loop μ-loop
 add-less-products c = omega (arith, row-end (c .before .before .loop .i) (c .before .before .before .before .before .args .n) (c .before .loop-test .taken) (c .before .before .loop .inv .0))
 
 mul-less-products-2 : tie.Need-mul-less-products-2 Inv-loop μ-loop
-mul-less-products-2 c = let h = row-end (c .before .before .loop .i) (c .before .before .before .before .before .args .n) (c .before .loop-test .taken) (c .before .before .loop .inv .0) in let g : (c .before .before .loop .end - c .before .before .before .before .before .args .n) + c .before .before .loop .i ≤ length (c .before .before .before .before .before .args .factors .now) = omega arith in search needs
+mul-less-products-2 c =
+    let start = c .before .before .before .before .before in
+    let h = row-end (c .before .before .loop .i) (start .args .n) (c .before .loop-test .taken) (c .before .before .loop .inv .0) in let g : (c .before .before .loop .end - start .args .n) + c .before .before .loop .i ≤ length (start .args .factors .now) = omega arith in search needs
 
 sub-less-products : tie.Need-sub-less-products Inv-loop μ-loop
 sub-less-products c = omega (arith, row-end (c .before .before .loop .i) (c .before .before .before .before .before .args .n) (c .before .loop-test .taken) (c .before .before .loop .inv .0))
@@ -63,20 +64,29 @@ part-less-products-end-2 c = search needs
 
 less-products-requires : tie.Need-less-products-requires Inv-loop μ-loop
 less-products-requires c κs =
-    let n = c .before .before .before .before .before .before .before .before .args .n in
-    let i = c .before .before .before .before .before .loop .i in
-    let end = c .before .before .before .before .before .loop .end in
-    let h = row-end i n (c .before .before .before .before .loop-test .taken) (c .before .before .before .before .before .loop .inv .0) in
-    same-parts (end - ((end - n) + i)) ((end - n) + i) (n - i) i (c .before .before .before .before .before .before .before .before .args .factors .now) (c .before .before .before .before .before .loop .x) (omega arith) (omega arith) (omega arith)
+    let start = c .before .before .before .before .before .before .before .before in
+    let turn = c .before .before .before .before .before in
+    let n = start .args .n in
+    let i = turn .loop .i in
+    let end = turn .loop .end in
+    let h = row-end i n (c .before .before .before .before .loop-test .taken) (turn .loop .inv .0) in
+    same-parts (end - ((end - n) + i)) ((end - n) + i) (n - i) i (start .args .factors .now) (turn .loop .x) (omega arith) (omega arith) (omega arith)
 
 add-x : tie.Need-add-x Inv-loop μ-loop
-add-x c = omega (arith, row-end (c .before .before .before .before .before .before .loop .i) (c .before .before .before .before .before .before .before .before .before .args .n) (c .before .before .before .before .before .loop-test .taken) (c .before .before .before .before .before .before .loop .inv .0))
+add-x c =
+    let turn = c .before .before .before .before .before .before in
+    omega (arith, row-end (turn .loop .i) (c .before .before .before .before .before .before .before .before .before .args .n) (c .before .before .before .before .before .loop-test .taken) (turn .loop .inv .0))
 
 mul-x : tie.Need-mul-x Inv-loop μ-loop
-mul-x c = let h = row-end (c .before .before .before .before .before .before .loop .i) (c .before .before .before .before .before .before .before .before .before .args .n) (c .before .before .before .before .before .loop-test .taken) (c .before .before .before .before .before .before .loop .inv .0) in let g : (c .before .before .before .before .before .before .loop .end - c .before .before .before .before .before .before .before .before .before .args .n) + (c .before .before .before .before .before .before .loop .i - 1) < length (c .before .before .before .before .before .before .before .before .before .args .factors .now) = omega arith in search needs
+mul-x c =
+    let start = c .before .before .before .before .before .before .before .before .before in
+    let turn = c .before .before .before .before .before .before in
+    let h = row-end (turn .loop .i) (start .args .n) (c .before .before .before .before .before .loop-test .taken) (turn .loop .inv .0) in let g : (turn .loop .end - start .args .n) + (turn .loop .i - 1) < length (start .args .factors .now) = omega arith in search needs
 
 shared-slice-read-x : tie.Need-shared-slice-read-x Inv-loop μ-loop
-shared-slice-read-x c = omega (arith, row-end (c .before .before .before .before .before .before .before .loop .i) (c .before .before .before .before .before .before .before .before .before .before .args .n) (c .before .before .before .before .before .before .loop-test .taken) (c .before .before .before .before .before .before .before .loop .inv .0))
+shared-slice-read-x c =
+    let turn = c .before .before .before .before .before .before .before in
+    omega (arith, row-end (turn .loop .i) (c .before .before .before .before .before .before .before .before .before .before .args .n) (c .before .before .before .before .before .before .loop-test .taken) (turn .loop .inv .0))
 
 mul-x-2 : tie.Need-mul-x-2 Inv-loop μ-loop
 mul-x-2 c = search needs
@@ -89,12 +99,15 @@ loop-less c = search needs
 
 loop-again : tie.Need-loop-again Inv-loop μ-loop
 loop-again c =
-    let n = c .before .before .before .before .before .before .before .before .before .before .args .n in
-    let i = c .before .before .before .before .before .before .before .loop .i in (
+    let start = c .before .before .before .before .before .before .before .before .before .before in
+    let turn = c .before .before .before .before .before .before .before in
+    let at-loop-test = c .before .before .before .before .before .before in
+    let n = start .args .n in
+    let i = turn .loop .i in (
       omega arith,
-      simp length-set (c .before .before .before .before .before .before .before .loop .inv .1),
-      row-before i n (c .before .before .before .before .before .before .before .loop .end) (c .before .before .before .before .before .before .loop-test .taken) (c .before .before .before .before .before .before .before .loop .inv .2),
-      c .before .before .before .before .before .before .before .loop .inv .3 ∙ backward-more n (c .before .before .before .before .before .before .before .before .before .before .args .factors .now) i (c .before .before .before .before .before .before .before .loop .end) (c .before .before .before .before .before .before .before .loop .x) (c .before .less-products .result) (c .before .before .before .before .before .before .loop-test .taken) (c .before .before .before .before .before .before .before .loop .inv .0) (c .before .before .before .before .before .before .before .loop .inv .1) (c .before .before .before .before .before .before .before .loop .inv .2) (c .before .less-products .ensures),
+      simp length-set (turn .loop .inv .1),
+      row-before i n (turn .loop .end) (at-loop-test .loop-test .taken) (turn .loop .inv .2),
+      turn .loop .inv .3 ∙ backward-more n (start .args .factors .now) i (turn .loop .end) (turn .loop .x) (c .before .less-products .result) (at-loop-test .loop-test .taken) (turn .loop .inv .0) (turn .loop .inv .1) (turn .loop .inv .2) (c .before .less-products .ensures),
     )
 
 same-length : tie.Need-same-length Inv-loop μ-loop

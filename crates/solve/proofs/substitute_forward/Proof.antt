@@ -30,7 +30,9 @@ add-less-products : tie.Need-add-less-products Inv-loop μ-loop
 add-less-products c = omega (arith, inside (c .before .before .loop .i) (c .before .before .before .before .before .args .n) (c .before .loop-test .taken))
 
 mul-less-products-2 : tie.Need-mul-less-products-2 Inv-loop μ-loop
-mul-less-products-2 c = let h = inside (c .before .before .loop .i) (c .before .before .before .before .before .args .n) (c .before .loop-test .taken) in let g : c .before .before .loop .at < length (c .before .before .before .before .before .args .factors .now) = omega arith in search needs
+mul-less-products-2 c =
+    let start = c .before .before .before .before .before in
+    let h = inside (c .before .before .loop .i) (start .args .n) (c .before .loop-test .taken) in let g : c .before .before .loop .at < length (start .args .factors .now) = omega arith in search needs
 
 sub-less-products : tie.Need-sub-less-products Inv-loop μ-loop
 sub-less-products c = search needs
@@ -52,10 +54,12 @@ part-less-products-end-2 c = search needs
 
 less-products-requires : tie.Need-less-products-requires Inv-loop μ-loop
 less-products-requires c κs =
-    let i = c .before .before .before .before .before .loop .i in
-    let at = c .before .before .before .before .before .loop .at in
-    let h = inside i (c .before .before .before .before .before .before .before .before .args .n) (c .before .before .before .before .loop-test .taken) in
-    same-parts ((at + i) - at) at (i - 0) 0 (c .before .before .before .before .before .before .before .before .args .factors .now) (c .before .before .before .before .before .loop .x) (omega arith) (omega arith) (omega arith)
+    let start = c .before .before .before .before .before .before .before .before in
+    let turn = c .before .before .before .before .before in
+    let i = turn .loop .i in
+    let at = turn .loop .at in
+    let h = inside i (start .args .n) (c .before .before .before .before .loop-test .taken) in
+    same-parts ((at + i) - at) at (i - 0) 0 (start .args .factors .now) (turn .loop .x) (omega arith) (omega arith) (omega arith)
 
 mul-x : tie.Need-mul-x Inv-loop μ-loop
 mul-x c = search needs
@@ -74,12 +78,14 @@ loop-less c = search needs
 
 loop-again : tie.Need-loop-again Inv-loop μ-loop
 loop-again c =
-    let n = c .before .before .before .before .before .before .before .before .before .args .n in
-    let i = c .before .before .before .before .before .before .loop .i in (
+    let start = c .before .before .before .before .before .before .before .before .before in
+    let turn = c .before .before .before .before .before .before in
+    let n = start .args .n in
+    let i = turn .loop .i in (
       omega arith,
-      simp length-set (c .before .before .before .before .before .before .loop .inv .1),
+      simp length-set (turn .loop .inv .1),
       omega (arith, next i n),
-      c .before .before .before .before .before .before .loop .inv .3 ∙ forward-more n (c .before .before .before .before .before .before .before .before .before .args .factors .now) i (c .before .before .before .before .before .before .loop .x) (c .before .before .before .before .before .before .loop .at) (c .less-products .result) (c .before .before .before .before .before .loop-test .taken) (c .before .before .before .before .before .before .loop .inv .2) (c .less-products .ensures),
+      turn .loop .inv .3 ∙ forward-more n (start .args .factors .now) i (turn .loop .x) (turn .loop .at) (c .less-products .result) (c .before .before .before .before .before .loop-test .taken) (turn .loop .inv .2) (c .less-products .ensures),
     )
 
 same-length : tie.Need-same-length Inv-loop μ-loop

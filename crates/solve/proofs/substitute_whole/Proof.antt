@@ -56,13 +56,19 @@ same-length c = search needs
 
 returns : tie.Need-returns
 returns c =
+    let start = c .before .before .before .before .before .before .before .before .before .before .before .before .before .before .before .before .before .before in
+    let at-unknowns = c .before .before .before .before .before .before .before .before .before .before .before .before in
+    let at-all-finite = c .before .before .before .before .before .before .before .before in
+    let at-unless = c .before .before .before .before .before .before .before in
     let room = replicate dofLimit (ofBits binary32 0) in
-    unknowns-good (c .before .before .before .before .before .before .before .before .before .before .before .before .before .before .before .before .before .before .args .n) (c .before .before .before .before .before .before .before .before .before .before .before .before .before .before .before .before .before .before .args .factors .now) (c .before .before .before .before .before .before .before .before .before .before .before .before .before .before .before .before .before .before .args .swaps .now) (c .before .before .before .before .before .before .before .before .before .before .before .before .before .before .before .before .before .before .args .right .now) (c .before .before .before .before .before .before .before .before .before .before .before .before .unknowns .last .1 .1 .1 .1 .0) room (c .before .before .before .before .before .before .before .before .before .before .before .before .before .before .before .before .before .before .args .result .now) (c .before .before .before .before .before .before .before .before .before .before .before .x2 .given ∙ front-length (c .before .before .before .before .before .before .before .before .before .before .before .before .before .before .before .before .before .before .args .n) room (c .before .before .before .before .before .before .before .before .before .before .before .before .before .before .before .before .before .before .pre .0)) (c .before .before .before .before .before .before .before .before .before .before .before .before .unknowns .ensures) (c .before .before .before .before .before .before .before .before .all-finite .result) (c .before .before .before .before .before .before .before .before .all-finite .ensures) (c .before .before .before .before .before .before .before .unless .result) (c .before .before .before .before .before .before .before .unless .ensures) (c .before .before .before .before .before .before .if1 .taken) (c .before .before .before .before .before .before .before .before .before .before .before .before .before .before .before .before .before .before .pre .4) (c .before .before .copy .last .0) (c .before .before .copy .ensures)
+    unknowns-good (start .args .n) (start .args .factors .now) (start .args .swaps .now) (start .args .right .now) (at-unknowns .unknowns .last .1 .1 .1 .1 .0) room (start .args .result .now) (c .before .before .before .before .before .before .before .before .before .before .before .x2 .given ∙ front-length (start .args .n) room (start .pre .0)) (at-unknowns .unknowns .ensures) (at-all-finite .all-finite .result) (at-all-finite .all-finite .ensures) (at-unless .unless .result) (at-unless .unless .ensures) (c .before .before .before .before .before .before .if1 .taken) (start .pre .4) (c .before .before .copy .last .0) (c .before .before .copy .ensures)
 
 returns-2 : tie.Need-returns-2
 returns-2 c =
+    let start = c .before .before .before .before .before .before .before .before .before .before .before .before in
+    let at-unknowns = c .before .before .before .before .before .before in
     let room = replicate dofLimit (ofBits binary32 0) in
-    unknowns-wild (c .before .before .before .before .before .before .before .before .before .before .before .before .args .n) (c .before .before .before .before .before .before .before .before .before .before .before .before .args .factors .now) (c .before .before .before .before .before .before .before .before .before .before .before .before .args .swaps .now) (c .before .before .before .before .before .before .before .before .before .before .before .before .args .right .now) (c .before .before .before .before .before .before .unknowns .last .1 .1 .1 .1 .0) room (c .before .before .before .before .before .before .before .before .before .before .before .before .args .result .now) (c .before .before .before .before .before .x2 .given ∙ front-length (c .before .before .before .before .before .before .before .before .before .before .before .before .args .n) room (c .before .before .before .before .before .before .before .before .before .before .before .before .pre .0)) (c .before .before .before .before .before .before .unknowns .ensures) (c .before .before .all-finite .result) (c .before .before .all-finite .ensures) (c .before .unless .result) (c .before .unless .ensures) (c .if1 .left)
+    unknowns-wild (start .args .n) (start .args .factors .now) (start .args .swaps .now) (start .args .right .now) (at-unknowns .unknowns .last .1 .1 .1 .1 .0) room (start .args .result .now) (c .before .before .before .before .before .x2 .given ∙ front-length (start .args .n) room (start .pre .0)) (at-unknowns .unknowns .ensures) (c .before .before .all-finite .result) (c .before .before .all-finite .ensures) (c .before .unless .result) (c .before .unless .ensures) (c .if1 .left)
 
 pub substitute-whole-spec : {M : Type 1} → statement M
 substitute-whole-spec =
