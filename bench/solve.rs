@@ -82,7 +82,7 @@ fn straight(n: usize, matrix: &[f32], right: &[f32], result: &mut [f32]) -> u8 {
     0
 }
 
-// ---- plain Rust with the same tests, the same operations and the same three sizes of buffers
+// ---- plain Rust with the same tests, the same operations and the same two sizes of buffers
 
 fn all_finite(s: &[f32]) -> bool {
     s.iter().fold(true, |ok, v| ok & v.is_finite())
@@ -173,8 +173,7 @@ fn plain(n: usize, matrix: &[f32], right: &[f32], result: &mut [f32]) -> u8 {
         return 7;
     }
     match n {
-        0..=6 => work(n, matrix, right, result, &mut [0.0; 36][..n * n], &mut [0; 6][..n]),
-        7..=16 => work(n, matrix, right, result, &mut [0.0; 256][..n * n], &mut [0; 16][..n]),
+        0..=12 => work(n, matrix, right, result, &mut [0.0; 144][..n * n], &mut [0; 12][..n]),
         _ => work(n, matrix, right, result, &mut [0.0; DOFS * DOFS][..n * n], &mut [0; DOFS][..n]),
     }
 }

@@ -9,13 +9,11 @@ ghost use mathlib.Core.Path.{_≡_};
 ghost use Prim.Native.Nat.{_*_, _<_, _≤_};
 ghost use lib.ListN.{length, take};
 ghost use Rattle.limits.specs.Limits.{dofLimit};
-ghost use Rattle.solve.specs.Buffers.{smallSize, middleSize};
+ghost use Rattle.solve.specs.Buffers.{smallSize};
 ghost use Rattle.solve.specs.Solve.{exchanged, permuted, lessProducts, forward, backward, answer, substituted, solution, into, solveRefusal, solveOf, substituteOf};
 
 // A small matrix is worked in a small buffer: to clear the largest would cost more than to solve it.
-const SMALL: usize = 6;
-
-const MIDDLE: usize = 16;
+const SMALL: usize = 12;
 
 fn exchange(x: &mut [f32], p: usize, q: usize)
     requires { ⌜ p < length (now x) ⌝ }
@@ -169,15 +167,6 @@ fn solve_small(n: usize, matrix: &[f32], right: &[f32], result: &mut [f32]) -> u
     solve_in(n, matrix, right, result, &mut rows, &mut swaps)
 }
 
-fn solve_middle(n: usize, matrix: &[f32], right: &[f32], result: &mut [f32]) -> u8
-    requires { ⌜ (n ≤ middleSize) × (n * n ≤ length (now matrix)) × (n ≤ length (now right)) × (n ≤ length (now result)) ⌝ }
-    ensures { λ r. ⌜ answer r (now (result .exit)) ≡ into n 0 (solution n (take (n * n) (now (matrix .entry))) (take n (now (right .entry)))) (now (result .entry)) ⌝ }
-{
-    let mut rows = [0.0f32; MIDDLE * MIDDLE];
-    let mut swaps = [0usize; MIDDLE];
-    solve_in(n, matrix, right, result, &mut rows, &mut swaps)
-}
-
 fn solve_large(n: usize, matrix: &[f32], right: &[f32], result: &mut [f32]) -> u8
     requires { ⌜ (n ≤ dofLimit) × (n * n ≤ length (now matrix)) × (n ≤ length (now right)) × (n ≤ length (now result)) ⌝ }
     ensures { λ r. ⌜ answer r (now (result .exit)) ≡ into n 0 (solution n (take (n * n) (now (matrix .entry))) (take n (now (right .entry)))) (now (result .entry)) ⌝ }
@@ -213,9 +202,6 @@ pub fn solve(n: usize, matrix: &[f32], right: &[f32], result: &mut [f32]) -> u8
     }
     if n <= SMALL {
         return solve_small(n, matrix, right, result);
-    }
-    if n <= MIDDLE {
-        return solve_middle(n, matrix, right, result);
     }
     solve_large(n, matrix, right, result)
 }
