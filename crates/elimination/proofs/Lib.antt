@@ -1,0 +1,8 @@
+pub mod Columns
+pub mod Every
+pub mod Filled
+pub mod Pivot
+pub mod Reduced
+pub mod Room
+pub mod Rows
+pub mod Sticky

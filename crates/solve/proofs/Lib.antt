@@ -1,0 +1,5 @@
+pub mod Substitution
+pub mod Sticky
+pub mod Answers
+pub mod Every
+pub mod Nothing
