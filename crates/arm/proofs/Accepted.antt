@@ -11,7 +11,7 @@ use Rattle.limits.specs.Limits.{linkLimit, couplingLimit}
 use Rattle.refusal.specs.Refusal.{unlessOf, lowerOf, lowest}
 use Rattle.refusal.proofs.Laws.{is-lowest}
 use Rattle.arm.specs.declared.Arm.{Arm}
-use Rattle.arm.specs.HandedIn.{countsFit, armEntries, armRefusal}
+use Rattle.arm.specs.HandedIn.{countsFit, parentsEarlier, couplingsLinksFit, linkNumbersFit, armEntries, armRefusal}
 
 -- ---- any list
 
@@ -47,3 +47,10 @@ unfolding armEntries
 counts-accepted a e =
     let both = both-hold _ _ (holds (countsFit a) 1 (is-lowest (armEntries a) .none e (unlessOf (countsFit a) 2) (inl refl))) in
     (leb-true _ _ (both .0), leb-true _ _ (both .1))
+
+-- and its parents are a tree's
+pub parents-accepted : (a : Arm) → lowest (armEntries a) ≡ 0 → parentsEarlier a ≡ true
+unfolding armEntries
+parents-accepted a e =
+    both-hold (parentsEarlier a) (couplingsLinksFit a)
+    (holds (linkNumbersFit a) 3 (is-lowest (armEntries a) .none e (unlessOf (linkNumbersFit a) 4) (inr (inr (inl refl))))) .0

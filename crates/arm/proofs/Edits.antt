@@ -2,32 +2,31 @@
 use Prim.Native.Nat.{ℕ, zero, suc, _+_, _≤_, _<_}
 use mathlib.Core.Path.{_≡_, refl, sym, ap, _∙_}
 use mathlib.Core.Bool.{true}
-use mathlib.Core.List.{List, [], _∷_}
+use mathlib.Core.List.{List, [], _∷_, map}
 use native.Mathlib.Omega.{arith}
-use lib.ListN.{length, getD, set}
+use lib.ListN.{length, take, getD, set}
 use Rattle.limits.specs.Limits.{linkLimit, dofLimit}
 use Rattle.masks.specs.Masks.{isFree, dofsBelow, dofsOf}
 use Rattle.masks.proofs.Laws.{below-free}
-use Rattle.masks.proofs.Totals.{start-in}
 use Rattle.arm.specs.declared.Arm.{Arm}
 use Rattle.arm.specs.declared.Edited.{Edited}
 use Rattle.arm.specs.declared.RowName.{RowName}
 use Rattle.arm.specs.declared.RowName.the-variants.{Velocities, Damping, Armature, Frictions, Accelerations}
-use Rattle.arm.specs.Arm.{liveLinks, masksOf, maskAt, startAt, dofCountOf, rowNumber}
+use Rattle.arm.specs.Arm.{liveLinks, maskAt, startAt, dofCountOf, rowNumber}
 use Rattle.arm.specs.Edits.{edited, modify, dofAt}
-use Rattle.arm.proofs.Live.{masks-live, dof-count-le}
+use Rattle.arm.proofs.Live.{part-within, dof-count-le}
 
 -- ---- the answer
 
-pub edited-none : (k : ℕ) (old new x : Arm) → k ≡ 0 → x ≡ new → _≡_ {A = Edited} (record { refusal = 0; arm = x }) (edited k old new)
+pub edited-none : (n k : ℕ) (old new x : Arm) → n ≡ k → n ≡ 0 → x ≡ new → _≡_ {A = Edited} (record { refusal = 0; arm = x }) (edited k old new)
 unfolding edited
-edited-none zero old new x h e = rw e
-edited-none (suc k) old new x h e = absurd (omega arith)
+edited-none n zero old new x p h e = rw e
+edited-none n (suc k) old new x p h e = absurd (omega arith)
 
-pub edited-some : (k : ℕ) (old new : Arm) → (k ≡ 0 → ⊥) → _≡_ {A = Edited} (record { refusal = k; arm = old }) (edited k old new)
+pub edited-some : (n k : ℕ) (old new : Arm) → n ≡ k → (n ≡ 0 → ⊥) → _≡_ {A = Edited} (record { refusal = n; arm = old }) (edited k old new)
 unfolding edited
-edited-some zero old new h = absurd (h refl)
-edited-some (suc k) old new h = refl
+edited-some n zero old new p h = absurd (h p)
+edited-some n (suc k) old new p h = rw p
 
 -- ---- an element's change
 
@@ -37,6 +36,42 @@ module _ {A : Type 0} (f : A → A) where
   set-modify [] i d y e = refl
   set-modify (x ∷ xs) zero d y e = ap (λ (z : A). z ∷ xs) e
   set-modify (x ∷ xs) (suc i) d y e = ap (λ (l : List A). x ∷ l) (set-modify xs i d y e)
+
+  pub take-modify : (n : ℕ) (xs : List A) (i : ℕ) → take n (modify f i xs) ≡ modify f i (take n xs)
+  unfolding modify
+  take-modify zero xs i = refl
+  take-modify (suc n) [] i = refl
+  take-modify (suc n) (x ∷ xs) zero = refl
+  take-modify (suc n) (x ∷ xs) (suc i) = ap (λ (l : List A). x ∷ l) (take-modify n xs i)
+
+  -- seen through g, the change is h
+  pub map-modify : {B : Type 0} (g : A → B) (h : B → B) → ((x : A) → g (f x) ≡ h (g x)) → (xs : List A) (i : ℕ)
+      → map g (modify f i xs) ≡ modify h i (map g xs)
+  unfolding modify
+  map-modify g h e [] i = refl
+  map-modify {B} g h e (x ∷ xs) zero = ap (λ (y : B). y ∷ map g xs) (e x)
+  map-modify {B} g h e (x ∷ xs) (suc i) = ap (λ (l : List B). g x ∷ l) (map-modify g h e xs i)
+
+  -- what g does not see
+  pub map-modify-same : {B : Type 0} (g : A → B) → ((x : A) → g (f x) ≡ g x) → (xs : List A) (i : ℕ) → map g (modify f i xs) ≡ map g xs
+  unfolding modify
+  map-modify-same g e [] i = refl
+  map-modify-same {B} g e (x ∷ xs) zero = ap (λ (y : B). y ∷ map g xs) (e x)
+  map-modify-same {B} g e (x ∷ xs) (suc i) = ap (λ (l : List B). g x ∷ l) (map-modify-same g e xs i)
+
+  pub modify-at : (xs : List A) (i : ℕ) (d : A) → i < length xs → getD (modify f i xs) i d ≡ f (getD xs i d)
+  unfolding modify
+  modify-at [] i d h = absurd (omega arith)
+  modify-at (x ∷ xs) zero d h = refl
+  modify-at (x ∷ xs) (suc i) d h = modify-at xs i d (omega arith)
+
+  pub modify-other : (xs : List A) (i j : ℕ) (d : A) → (j ≡ i → ⊥) → getD (modify f i xs) j d ≡ getD xs j d
+  unfolding modify
+  modify-other [] i j d h = refl
+  modify-other (x ∷ xs) zero zero d h = absurd (h refl)
+  modify-other (x ∷ xs) zero (suc j) d h = refl
+  modify-other (x ∷ xs) (suc i) zero d h = refl
+  modify-other (x ∷ xs) (suc i) (suc j) d h = modify-other xs i j d (λ e. h (ap suc e))
 
 -- ---- rows
 
@@ -50,9 +85,8 @@ row-there Accelerations = omega arith
 -- the entry of a free axis lies within the DoF count
 pub dof-within : (a : Arm) (link axis : ℕ) → length (a .links) ≡ linkLimit → link < liveLinks a → isFree (maskAt a link) axis ≡ true
     → dofAt a link axis < dofCountOf a
-unfolding dofAt startAt dofCountOf maskAt
-dof-within a link axis w h free =
-    omega (arith, start-in (masksOf a) link 7 (omega (arith, masks-live a w)), below-free (getD (masksOf a) link 7) axis free)
+unfolding dofAt
+dof-within a link axis w h free = omega (arith, part-within a w link h, below-free (maskAt a link) axis free)
 
 pub dof-in-row : (a : Arm) (link axis : ℕ) → length (a .links) ≡ linkLimit → link < liveLinks a → isFree (maskAt a link) axis ≡ true
     → dofAt a link axis < dofLimit

@@ -4,3 +4,5 @@ pub mod Every
 pub mod Live
 pub mod Accepted
 pub mod Edits
+pub mod Agree
+pub mod Theorems

@@ -1,3 +1,5 @@
 pub mod Arm
 pub mod Edits
 pub mod HandedIn
+pub mod Agree
+pub mod Words

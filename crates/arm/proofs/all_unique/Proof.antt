@@ -65,7 +65,7 @@ loop-less c = search needs
 
 -- src/lib.rt:188:5
 loop-again : tie.Need-loop-again Inv-loop μ-loop
-loop-again c =
+loop-again c = 
     let ts = c .before .before .before .before .before .before .args .tags .now in
     let k = c .before .before .before .before .loop in
     (omega arith, unique-more ts (k .i) (k .ok) (c .is-new .result) (omega arith) (c .is-new .ensures ∙ ap (isNew (getD ts (k .i) 0)) (tail ts (k .i + 1))) (k .inv .1))

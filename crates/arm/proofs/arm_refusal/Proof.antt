@@ -101,7 +101,7 @@ lower-requires-5 c κs = search needs
 
 -- src/lib.rt:361:1
 returns : tie.Need-returns
-returns c =
+returns c = 
     let a = c .before .before .before .before .before .before .before .before .before .before .before .before .before .before .before .before .before .before .before .before .before .before .before .before .args .arm in
     same a (c .before .before .before .before .before .before .before .before .before .before .before .before .before .before .before .before .before .before .before .before .before .before .before .link-tests .result) (c .before .before .before .before .before .before .before .before .before .before .before .before .before .before .before .before .before .before .before .before .before .before .coupling-tests .result) (c .before .before .before .before .before .before .before .before .before .before .before .before .before .before .before .before .before .before .tags-unique .result) (c .before .before .before .before .before .before .before .before .before .before .before .before .before .before .before .before .parents-earlier .result) (c .before .before .before .before .before .before .before .before .before .before .before .before .before .root-fits .result) (c .before .before .before .before .before .before .before .rows-finite .result)
     (c .before .before .before .before .before .before .before .before .before .before .before .before .before .before .before .before .before .before .before .before .before .before .before .link-tests .ensures) (c .before .before .before .before .before .before .before .before .before .before .before .before .before .before .before .before .before .before .before .before .before .before .coupling-tests .ensures) (c .before .before .before .before .before .before .before .before .before .before .before .before .before .before .before .before .before .before .tags-unique .ensures) (c .before .before .before .before .before .before .before .before .before .before .before .before .before .before .before .before .parents-earlier .ensures) (c .before .before .before .before .before .before .before .before .before .before .before .before .before .root-fits .ensures) (c .before .before .before .before .before .before .before .rows-finite .ensures)

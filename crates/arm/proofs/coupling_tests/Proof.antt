@@ -17,6 +17,7 @@ use Rattle.arm.proofs.axes_fit.Reads as axes-fit-reads
 use Rattle.arm.proofs.fewer.Reads as fewer-reads
 use Rattle.arm.proofs.is_finite_coupling.Reads as is-finite-coupling-reads
 use Rattle.arm.proofs.links_fit.Reads as links-fit-reads
+
 use Rattle.arm.specs.declared.Arm.{Arm}
 use Rattle.arm.specs.declared.CouplingTests.{CouplingTests}
 
@@ -74,21 +75,19 @@ loop-less c = search needs
 
 -- src/lib.rt:303:5
 loop-again : tie.Need-loop-again Inv-loop μ-loop
-loop-again c =
+loop-again c = 
     let a = c .before .before .before .before .before .before .before .args .t1 in
     let k = c .before .before .before .before .before .loop in
     let w = couplings-length a (c .before .before .before .before .before .before .before .good .0) in
-    let fits : c .before .before .before .before .before .before .fewer .result ≤ length (a .couplings) = omega arith in (
-      k .inv .0,
-      omega arith,
-      front-more (couplingLinksFit (a .«link_count»)) (a .couplings) _ fits (k .i) (k .links) _ _ (omega arith) (c .before .before .links-fit .ensures) (k .inv .2),
-      front-more couplingAxesFit (a .couplings) _ fits (k .i) (k .axes) _ _ (omega arith) (c .before .axes-fit .ensures) (k .inv .3),
-      front-more couplingFinite (a .couplings) _ fits (k .i) (k .floats) _ _ (omega arith) (c .is-finite-coupling .ensures) (k .inv .4),
-    )
+    let fits : c .before .before .before .before .before .before .fewer .result ≤ length (a .couplings) = omega arith in
+    (k .inv .0, omega arith,
+    front-more (couplingLinksFit (a .«link_count»)) (a .couplings) _ fits (k .i) (k .links) _ _ (omega arith) (c .before .before .links-fit .ensures) (k .inv .2),
+    front-more couplingAxesFit (a .couplings) _ fits (k .i) (k .axes) _ _ (omega arith) (c .before .axes-fit .ensures) (k .inv .3),
+    front-more couplingFinite (a .couplings) _ fits (k .i) (k .floats) _ _ (omega arith) (c .is-finite-coupling .ensures) (k .inv .4))
 
 -- src/lib.rt:295:1
 returns : tie.Need-returns Inv-loop μ-loop
-returns c =
+returns c = 
     let a = c .before .before .before .args .t1 in
     let k = c .before .loop in
     ended a (couplings-length a (c .before .before .before .good .0)) _ (k .i) (k .links) (k .axes) (k .floats) (k .inv .0) (omega arith) (k .inv .2) (k .inv .3) (k .inv .4)

@@ -17,6 +17,7 @@ use Rattle.arm.proofs.angle_fits.Reads as angle-fits-reads
 use Rattle.arm.proofs.is_finite_link.Reads as is-finite-link-reads
 use Rattle.arm.proofs.live_links.Reads as live-links-reads
 use Rattle.arm.proofs.masks_fit.Reads as masks-fit-reads
+
 use Rattle.arm.specs.declared.Arm.{Arm}
 use Rattle.arm.specs.declared.LinkTests.{LinkTests}
 
@@ -73,21 +74,19 @@ loop-less c = search needs
 
 -- src/lib.rt:243:5
 loop-again : tie.Need-loop-again Inv-loop μ-loop
-loop-again c =
+loop-again c = 
     let a = c .before .before .before .before .before .before .before .args .t1 in
     let k = c .before .before .before .before .before .loop in
     let w = links-length a (c .before .before .before .before .before .before .before .good .0) in
-    let fits : c .before .before .before .before .before .before .live-links .result ≤ length (a .links) = omega arith in (
-      k .inv .0,
-      omega arith,
-      front-more linkMasksFit (a .links) _ fits (k .i) (k .masks) _ _ (omega arith) (c .before .before .masks-fit .ensures) (k .inv .2),
-      front-more linkFinite (a .links) _ fits (k .i) (k .floats) _ _ (omega arith) (c .before .is-finite-link .ensures) (k .inv .3),
-      front-more linkAngleFits (a .links) _ fits (k .i) (k .angles) _ _ (omega arith) (c .angle-fits .ensures) (k .inv .4),
-    )
+    let fits : c .before .before .before .before .before .before .live-links .result ≤ length (a .links) = omega arith in
+    (k .inv .0, omega arith,
+    front-more linkMasksFit (a .links) _ fits (k .i) (k .masks) _ _ (omega arith) (c .before .before .masks-fit .ensures) (k .inv .2),
+    front-more linkFinite (a .links) _ fits (k .i) (k .floats) _ _ (omega arith) (c .before .is-finite-link .ensures) (k .inv .3),
+    front-more linkAngleFits (a .links) _ fits (k .i) (k .angles) _ _ (omega arith) (c .angle-fits .ensures) (k .inv .4))
 
 -- src/lib.rt:235:1
 returns : tie.Need-returns Inv-loop μ-loop
-returns c =
+returns c = 
     let a = c .before .before .before .args .t1 in
     let k = c .before .loop in
     ended a (links-length a (c .before .before .before .good .0)) _ (k .i) (k .masks) (k .floats) (k .angles) (k .inv .0) (omega arith) (k .inv .2) (k .inv .3) (k .inv .4)

@@ -16,6 +16,7 @@ use Rattle.arm.proofs.rows_finite.Reads as reads
 use Rattle.arm.proofs.rows_finite.Lts as lts
 use Rattle.arm.proofs.dof_count.Reads as dof-count-reads
 use Rattle.arm.proofs.is_finite_row.Reads as is-finite-row-reads
+
 use Rattle.arm.specs.declared.Arm.{Arm}
 use Rattle.arm.specs.declared.Row.{Row}
 
@@ -63,7 +64,7 @@ loop-less c = search needs
 
 -- src/lib.rt:334:5
 loop-again : tie.Need-loop-again Inv-loop μ-loop
-loop-again c =
+loop-again c = 
     let a = c .before .before .before .before .before .args .t1 in
     let k = c .before .before .before .loop in
     let w = rows-length a (c .before .before .before .before .before .good .0) in
@@ -71,7 +72,7 @@ loop-again c =
 
 -- src/lib.rt:328:1
 returns : tie.Need-returns Inv-loop μ-loop
-returns c =
+returns c = 
     let a = c .before .before .before .args .t1 in
     let k = c .before .loop in
     ended a (rows-length a (c .before .before .before .good .0)) _ (k .i) (k .ok) (k .inv .0) (omega arith) (k .inv .2)

@@ -58,14 +58,14 @@ loop-less c = search needs
 
 -- src/lib.rt:141:5
 loop-again : tie.Need-loop-again Inv-loop μ-loop
-loop-again c =
+loop-again c = 
     let a = c .before .before .before .before .before .before .args .t1 in
     let k = c .before .before .before .loop in
     (omega arith, omega arith, start-more a (links-length a (c .before .before .before .before .before .before .good .0)) (k .i) (k .start) (c .dofs .result) _ (omega arith) (k .inv .2) (c .dofs .ensures))
 
 -- src/lib.rt:135:1
 returns : tie.Need-returns Inv-loop μ-loop
-returns c =
+returns c = 
     let a = c .before .before .before .before .args .t1 in
     c .before .loop .inv .2 ∙ start-end a (links-length a (c .before .before .before .before .good .0)) (c .before .before .before .before .args .link) (c .before .loop .i) (omega arith)
 

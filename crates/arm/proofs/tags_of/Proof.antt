@@ -49,7 +49,7 @@ loop-less c = search needs
 
 -- src/lib.rt:101:5
 loop-again : tie.Need-loop-again Inv-loop μ-loop
-loop-again c =
+loop-again c = 
     let a = c .before .before .before .args .t1 in
     let k = c .before .before .loop in
     let n : length (a .links) ≡ linkLimit = links-length a (c .before .before .before .good .0) in
@@ -58,7 +58,7 @@ loop-again c =
 
 -- src/lib.rt:96:1
 returns : tie.Need-returns Inv-loop μ-loop
-returns c =
+returns c = 
     let a = c .before .before .args .t1 in
     let k = c .before .loop in
     let n : length (a .links) ≡ linkLimit = links-length a (c .before .before .good .0) in
