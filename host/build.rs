@@ -1,43 +1,47 @@
-//! Builds the proved archive with `rt staticlib plugin` where it is missing or older than what it is made of, and links it.
+//! Builds the proved archives with `rt staticlib` where they are missing or older than what they are made of, and links them.
 
 use std::fs;
 use std::path::{Path, PathBuf};
 use std::process::{Command, exit};
 use std::time::SystemTime;
 
-const CRATE: &str = "plugin";
+const CRATES: [&str; 2] = ["plugin", "exports"];
 
 fn main() {
     let host = PathBuf::from(std::env::var_os("CARGO_MANIFEST_DIR").unwrap_or_default());
     let root = host.parent().unwrap_or(&host).to_path_buf();
     let folder = root.join("target/staticlib");
-    let archive = folder.join(format!("lib{CRATE}.a"));
+    println!("cargo::rerun-if-changed=build.rs");
+    println!("cargo::rerun-if-changed={}", root.join("crates.txt").display());
+    println!("cargo::rustc-link-search=native={}", folder.display());
+    for name in CRATES {
+        link(&root, &folder, name);
+    }
+}
 
-    let sources: Vec<PathBuf> = used(&root)
+fn link(root: &Path, folder: &Path, name: &str) {
+    let archive = folder.join(format!("lib{name}.a"));
+    let sources: Vec<PathBuf> = used(root, name)
         .iter()
         .flat_map(|name| ["src", "specs", "proofs"].map(|folder| root.join("crates").join(name).join(folder)))
         .filter(|folder| folder.exists())
         .collect();
     let newest = sources.iter().filter_map(|folder| changed(folder)).max();
     if fs::metadata(&archive).and_then(|a| a.modified()).ok() < newest {
-        build(&root);
+        build(root, name);
     }
-
-    println!("cargo::rerun-if-changed=build.rs");
     println!("cargo::rerun-if-changed={}", archive.display());
-    println!("cargo::rerun-if-changed={}", root.join("crates.txt").display());
     for folder in &sources {
         println!("cargo::rerun-if-changed={}", folder.display());
     }
-    println!("cargo::rustc-link-search=native={}", folder.display());
-    println!("cargo::rustc-link-lib=static={CRATE}");
+    println!("cargo::rustc-link-lib=static={name}");
 }
 
 /// The crate and, by the lines of crates.txt, all that it uses.
-fn used(root: &Path) -> Vec<String> {
+fn used(root: &Path, name: &str) -> Vec<String> {
     let listed = fs::read_to_string(root.join("crates.txt"))
         .unwrap_or_else(|why| stop(&format!("crates.txt can't be read: {why}")));
-    let mut found = vec![CRATE.to_string()];
+    let mut found = vec![name.to_string()];
     let mut at = 0;
     while at < found.len() {
         let line = listed
@@ -68,16 +72,16 @@ fn changed(folder: &Path) -> Option<SystemTime> {
     newest
 }
 
-fn build(root: &Path) {
-    let made = Command::new("rt").args(["staticlib", CRATE]).current_dir(root).output();
+fn build(root: &Path, name: &str) {
+    let made = Command::new("rt").args(["staticlib", name]).current_dir(root).output();
     match made {
         Err(why) => stop(&format!(
             "the archive has to be built, and `rt` can't be run ({why}).\n\
-             Put the Rattle kit's `rt` on PATH, or run `rt staticlib {CRATE}` at {} by hand.",
+             Put the Rattle kit's `rt` on PATH, or run `rt staticlib {name}` at {} by hand.",
             root.display()
         )),
         Ok(out) if !out.status.success() => stop(&format!(
-            "`rt staticlib {CRATE}` failed ({}):\n{}{}",
+            "`rt staticlib {name}` failed ({}):\n{}{}",
             out.status,
             String::from_utf8_lossy(&out.stdout),
             String::from_utf8_lossy(&out.stderr)

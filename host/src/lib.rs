@@ -5,6 +5,8 @@
 mod ffi;
 pub mod masks;
 mod refusal;
+pub mod rotation;
+pub mod solve;
 pub mod split;
 
 pub use refusal::Refusal;

@@ -52,23 +52,31 @@ impl fmt::Display for Refusal {
 
 impl Error for Refusal {}
 
+/// What a refusal's number says, where 0 is none. No function gives more than 12.
+pub(crate) fn refused(number: u8) -> Result<(), Refusal> {
+    Err(match number {
+        0 => return Ok(()),
+        1 => Refusal::ShortMemory,
+        2 => Refusal::TooMany,
+        3 => Refusal::TagTaken,
+        4 => Refusal::NoSuchLink,
+        5 => Refusal::BadMask,
+        6 => Refusal::AxisLocked,
+        7 => Refusal::NotFinite,
+        8 => Refusal::NoRotation,
+        9 => Refusal::AngleTooFar,
+        10 => Refusal::BoundsReversed,
+        11 => Refusal::Singular,
+        12.. => Refusal::ResultNotFinite,
+    })
+}
+
 /// What an exported function returned: a count, or a refusal's number below zero. None returns less than -12.
 pub(crate) fn told(returned: i32) -> Result<usize, Refusal> {
-    Err(match returned {
-        0.. => return Ok(returned as usize),
-        -1 => Refusal::ShortMemory,
-        -2 => Refusal::TooMany,
-        -3 => Refusal::TagTaken,
-        -4 => Refusal::NoSuchLink,
-        -5 => Refusal::BadMask,
-        -6 => Refusal::AxisLocked,
-        -7 => Refusal::NotFinite,
-        -8 => Refusal::NoRotation,
-        -9 => Refusal::AngleTooFar,
-        -10 => Refusal::BoundsReversed,
-        -11 => Refusal::Singular,
-        ..=-12 => Refusal::ResultNotFinite,
-    })
+    if returned < 0 {
+        refused(returned.unsigned_abs().min(12) as u8)?;
+    }
+    Ok(returned.max(0) as usize)
 }
 
 #[cfg(test)]

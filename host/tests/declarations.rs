@@ -62,7 +62,8 @@ fn as_c(name: &str, of: &str) -> Vec<String> {
 
 fn exported() -> Signatures {
     let mut found = Signatures::new();
-    for file in files(&host().join("../crates/plugin/src"), ".rt") {
+    let exporting = ["plugin", "exports"].map(|name| files(&host().join(format!("../crates/{name}/src")), ".rt"));
+    for file in exporting.into_iter().flatten() {
         let text = code(&fs::read_to_string(file).unwrap());
         for (before, after) in text
             .match_indices("pub extern \"C\" fn ")

@@ -1,0 +1,50 @@
+//! The rotation against the true cosine and sine: over a million angles from -256 to 256, the ends, both zeros and denormals among them.
+
+use giellavor::Refusal;
+use giellavor::rotation::rotate;
+
+const TOLERANCE: f64 = 0.000001;
+
+fn check(angle: f32) {
+    let answer = rotate(angle).unwrap_or_else(|why| panic!("{angle:e}: {why}"));
+    let (sine, cosine) = f64::from(angle).sin_cos();
+    let (re, im) = (f64::from(answer.re), f64::from(answer.im));
+    assert!((re - cosine).abs() <= TOLERANCE && (im - sine).abs() <= TOLERANCE, "{angle:e}: {re} {im}");
+}
+
+#[test]
+fn a_million_angles_spread_evenly() {
+    for step in 0..=1_048_576 {
+        check(-256.0 + step as f32 / 2048.0);
+    }
+}
+
+/// Every 1,021st float from +0 to 256, and its negative: small angles and denormals as well as large ones.
+#[test]
+fn angles_of_every_size() {
+    for bits in (0..=256f32.to_bits()).step_by(1021) {
+        check(f32::from_bits(bits));
+        check(-f32::from_bits(bits));
+    }
+}
+
+#[test]
+fn ends_zeros_and_denormals() {
+    for bits in [0, 1, 2, 0x007F_FFFF, 0x0080_0000, 0x4380_0000] {
+        check(f32::from_bits(bits));
+        check(-f32::from_bits(bits));
+    }
+    let zero = rotate(-0.0).unwrap();
+    assert_eq!((zero.re.to_bits(), zero.im.to_bits()), (1f32.to_bits(), 0));
+}
+
+#[test]
+fn what_lies_beyond_is_refused() {
+    let next = f32::from_bits(256f32.to_bits() + 1);
+    for angle in [next, -next, 1000.0, f32::MAX, f32::MIN] {
+        assert_eq!(rotate(angle), Err(Refusal::AngleTooFar));
+    }
+    for angle in [f32::NAN, f32::INFINITY, f32::NEG_INFINITY] {
+        assert_eq!(rotate(angle), Err(Refusal::NotFinite));
+    }
+}
