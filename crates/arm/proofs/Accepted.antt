@@ -1,16 +1,17 @@
 -- A list of tests that gives no refusal: each test holds. And a call's own tests go before the arm's. Assumes nothing.
-use Prim.Native.Nat.{ℕ, zero, suc, _≤_}
+use Prim.Native.Nat.{ℕ, suc, _≤_, _<_}
 use mathlib.Core.Path.{_≡_, refl}
 use mathlib.Core.Bool.{Bool, true, false, _&&_}
 use mathlib.Core.Logic.{inl, inr}
-use mathlib.Core.List.{List, [], _∷_}
+use mathlib.Core.List.{List, _∷_}
 use native.Mathlib.Nat.{eq-zero-or-pos}
 use native.Mathlib.Omega.{arith}
-use borrow.Author.Tests.{leb-true}
+use borrow.Author.Tests.{leb-true, ltb-true}
 use Rattle.limits.specs.Limits.{linkLimit, couplingLimit}
 use Rattle.refusal.specs.Refusal.{unlessOf, lowerOf, lowest}
 use Rattle.refusal.proofs.Laws.{is-lowest}
 use Rattle.arm.specs.declared.Arm.{Arm}
+use Rattle.arm.specs.Arm.{liveLinks, isLink}
 use Rattle.arm.specs.HandedIn.{countsFit, parentsEarlier, couplingsLinksFit, linkNumbersFit, armEntries, armRefusal}
 
 -- ---- any list
@@ -54,3 +55,14 @@ unfolding armEntries
 parents-accepted a e =
     both-hold (parentsEarlier a) (couplingsLinksFit a)
     (holds (linkNumbersFit a) 3 (is-lowest (armEntries a) .none e (unlessOf (linkNumbersFit a) 4) (inr (inr (inl refl))))) .0
+
+-- a link that is asked for is there, and so is its place in the array
+pub record Link-there (a : Arm) (link : ℕ) : Type 0 where
+  pub below : link < a .«link_count»
+  pub room : a .«link_count» ≤ linkLimit
+
+pub live : (a : Arm) (link : ℕ) → Link-there a link → link < liveLinks a
+live a link t = omega (arith, t .below, t .room)
+
+pub there : (a : Arm) (link : ℕ) → isLink a link ≡ true → lowest (armEntries a) ≡ 0 → Link-there a link
+there a link h e = record { below = ltb-true link (a .«link_count») h; room = counts-accepted a e .0 }

@@ -1,11 +1,10 @@
 -- Arms that agree up to their counts have the same masks, starts, DoF count and refusals: each is worked out from what they agree on.
 -- Assumes nothing.
 use Prim.Native.Nat.{ℕ, zero, suc}
-use mathlib.Core.Path.{_≡_, refl, sym, ap, _∙_}
+use mathlib.Core.Path.{_≡_, refl, ap}
 use mathlib.Core.List.{List, map}
 use lib.ListN.{getD}
 use Rattle.refusal.specs.Refusal.{lowest}
-use Rattle.masks.specs.Masks.{dofsBelow}
 use Rattle.masks.specs.Starts.{totalOf, startOf}
 use Rattle.arm.specs.declared.Arm.{Arm}
 use Rattle.arm.specs.Arm.{lockedOf, parentOf, tagOf, masksOf, maskAt, startAt, dofCountOf, tagsOf, parentsOf}

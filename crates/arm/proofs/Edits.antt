@@ -1,18 +1,18 @@
 -- Edits of an arm, refused or not; an element's change as a store; a free axis' entry lies within the row. Assumes nothing.
-use Prim.Native.Nat.{ℕ, zero, suc, _+_, _≤_, _<_}
-use mathlib.Core.Path.{_≡_, refl, sym, ap, _∙_}
+use Prim.Native.Nat.{ℕ, zero, suc, _<_}
+use mathlib.Core.Path.{_≡_, refl, ap}
 use mathlib.Core.Bool.{true}
 use mathlib.Core.List.{List, [], _∷_, map}
 use native.Mathlib.Omega.{arith}
 use lib.ListN.{length, take, getD, set}
 use Rattle.limits.specs.Limits.{linkLimit, dofLimit}
-use Rattle.masks.specs.Masks.{isFree, dofsBelow, dofsOf}
+use Rattle.masks.specs.Masks.{isFree}
 use Rattle.masks.proofs.Laws.{below-free}
 use Rattle.arm.specs.declared.Arm.{Arm}
 use Rattle.arm.specs.declared.Edited.{Edited}
 use Rattle.arm.specs.declared.RowName.{RowName}
 use Rattle.arm.specs.declared.RowName.the-variants.{Velocities, Damping, Armature, Frictions, Accelerations}
-use Rattle.arm.specs.Arm.{liveLinks, maskAt, startAt, dofCountOf, rowNumber}
+use Rattle.arm.specs.Arm.{liveLinks, maskAt, dofCountOf, rowNumber}
 use Rattle.arm.specs.Edits.{edited, modify, dofAt}
 use Rattle.arm.proofs.Live.{part-within, dof-count-le}
 

@@ -10,7 +10,7 @@ use lib.Dec.{eqb}
 use lib.ListN.{length, take, getD, length-take, length-map, List·getD-eq-default}
 use lib.Seq.{getD-take, length-take-le}
 use Rattle.limits.specs.Limits.{linkLimit, dofLimit}
-use Rattle.masks.specs.Masks.{one, isFree, dofsBelow, dofsOf}
+use Rattle.masks.specs.Masks.{dofsBelow, dofsOf}
 use Rattle.masks.specs.Starts.{totalOf, startOf}
 use Rattle.masks.proofs.Laws.{dofs-le, below-le}
 use Rattle.masks.proofs.Totals.{start-next, start-all, start-in, total-le}

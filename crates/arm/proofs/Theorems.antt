@@ -1,19 +1,26 @@
 -- Theorems about an arm's degrees of freedom: starts rise by DoF counts, and no two free axes share an entry. Assumes nothing.
 use Prim.Native.Nat.{ℕ, zero, suc, _+_, _≤_, _<_}
 use mathlib.Core.Path.{_≡_, refl, sym, ap, _∙_}
-use mathlib.Core.Bool.{Bool, true}
-use mathlib.Core.Logic.{inl, inr}
+use mathlib.Core.Bool.{true}
 use native.Mathlib.Omega.{arith}
 use native.Mathlib.Decide.{decLt}
-use lib.ListN.{length, getD, length-map}
+use lib.ListN.{length, length-map}
+use Rattle.refusal.specs.Refusal.{Lowest}
+use Rattle.refusal.proofs.Laws.{is-lowest}
 use Rattle.masks.specs.Masks.{one, isFree, dofsBelow, dofsOf}
 use Rattle.masks.proofs.Laws.{below-suc, below-free}
 use Rattle.masks.proofs.Totals.{start-next, start-room}
 use Rattle.arm.specs.declared.Arm.{Arm}
-use Rattle.arm.specs.declared.Edited.{Edited}
 use Rattle.arm.specs.Arm.{linksOf, lockedOf, masksOf, maskAt, startAt}
 use Rattle.arm.specs.Edits.{edited, dofAt}
+use Rattle.arm.specs.HandedIn.{armEntries, armRefusal}
 use Rattle.arm.specs.Words.{FreeAxis}
+
+-- ---- the refusal of an arm handed in is the lowest of its six entries
+
+pub arm-lowest : (a : Arm) → Lowest (armEntries a) (armRefusal a)
+unfolding armRefusal
+arm-lowest a = is-lowest (armEntries a)
 
 -- ---- a refusal returns the arm as it came, an accepted edit the new one
 

@@ -1,6 +1,8 @@
 -- An arm, up to its counts: what lies past them is no part of it.
 use Prim.Native.Nat.{ℕ, min}
-use mathlib.Core.List.{List, [], _∷_, map}
+use mathlib.Core.Bool.{Bool}
+use mathlib.Core.List.{List, map}
+use lib.Dec.{ltb}
 use lib.ListN.{take, getD}
 use lib.Ieee.{Float}
 use Rattle.limits.specs.Limits.{linkLimit, couplingLimit}
@@ -23,6 +25,10 @@ linksOf a = take (liveLinks a) (a .links)
 
 unfoldable pub couplingsOf : Arm → List Coupling
 couplingsOf a = take (min (a .«coupling_count») couplingLimit) (a .couplings)
+
+-- a number that is below the link count
+abbrev pub isLink : Arm → ℕ → Bool
+isLink a link = ltb link (a .«link_count»)
 
 abbrev pub tagOf : Link → ℕ
 tagOf l = l .tag

@@ -1,9 +1,8 @@
 -- An arm handed in: document 01's rules 2 to 5, 7 and 9, each as a test of the arm up to its counts.
 use Prim.Native.Nat.{ℕ}
-use mathlib.Core.Bool.{Bool, true, false, not, _&&_, _||_}
+use mathlib.Core.Bool.{Bool, true, not, _&&_, _||_}
 use mathlib.Core.List.{List, [], _∷_}
 use lib.Dec.{eqb, leb, ltb}
-use lib.Ieee.{Float}
 use Rattle.limits.specs.Limits.{linkLimit, couplingLimit}
 use Rattle.refusal.specs.Refusal.{unlessOf, lowest}
 use Rattle.floats.specs.Floats.{isFinite, allFinite}
@@ -19,7 +18,7 @@ use Rattle.arm.specs.declared.Row.{Row}
 use Rattle.arm.specs.declared.Arm.{Arm}
 use Rattle.arm.specs.declared.LinkTests.{LinkTests}
 use Rattle.arm.specs.declared.CouplingTests.{CouplingTests}
-use Rattle.arm.specs.Arm.{linksOf, couplingsOf, tagsOf, parentsOf, masksOf, dofCountOf, entriesTo, rowsOf}
+use Rattle.arm.specs.Arm.{linksOf, couplingsOf, tagsOf, parentsOf, masksOf, entriesTo, rowsOf}
 
 -- does each pass?
 unfoldable pub every : {A : Type 0} → (A → Bool) → List A → Bool

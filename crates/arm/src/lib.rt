@@ -223,14 +223,21 @@ pub fn is_finite_joint(j: Joint) -> bool
     let coordinates = j.coordinates;
     let stiffness = j.stiffness;
     let rest = j.rest;
-    is_finite_pose(j.frame1) & is_finite_pose(j.frame2) & all_finite(&coordinates) & is_finite_rotation(j.rotation)
-        & all_finite(&stiffness) & all_finite(&rest)
+    is_finite_pose(j.frame1)
+        & is_finite_pose(j.frame2)
+        & all_finite(&coordinates)
+        & is_finite_rotation(j.rotation)
+        & all_finite(&stiffness)
+        & all_finite(&rest)
 }
 
 pub fn is_finite_link(l: Link) -> bool
     ensures { λ r. ⌜ r ≡ linkFinite l ⌝ }
 {
-    is_finite_joint(l.joint) & is_finite_point(l.centre) & is_finite_pose(l.world) & is_finite_point(l.shift02)
+    is_finite_joint(l.joint)
+        & is_finite_point(l.centre)
+        & is_finite_pose(l.world)
+        & is_finite_point(l.shift02)
         & is_finite_point(l.shift23)
 }
 
@@ -384,10 +391,7 @@ pub fn arm_refusal(arm: Arm) -> u8
                 lower(
                     unless(links.masks & root_fits(arm) & couplings.axes, 5),
                     lower(
-                        unless(
-                            links.floats & couplings.floats & rows_finite(arm),
-                            7,
-                        ),
+                        unless(links.floats & couplings.floats & rows_finite(arm), 7),
                         unless(links.angles, 9),
                     ),
                 ),

@@ -1,25 +1,22 @@
 -- The branch of a link of an arm: what it needs is the count that spare memory gets, and an accepted call is accepted for the bare parents.
 -- Assumes nothing.
-use Prim.Native.Nat.{ℕ, zero, suc, min, _+_, _≤_, _<_}
+use Prim.Native.Nat.{ℕ, zero, suc, _+_, _≤_, _<_}
 use mathlib.Core.Path.{_≡_, refl, sym, ap, _∙_}
 use mathlib.Core.Bool.{Bool, true, false, cond, _&&_}
-use mathlib.Core.Logic.{inl, inr}
-use mathlib.Core.List.{List, [], _∷_, _++_}
+use mathlib.Core.List.{List, _∷_}
 use native.Mathlib.Omega.{arith}
-use native.Mathlib.Nat.{eq-zero-or-pos}
 use native.Mathlib.Decide.{decLt}
-use borrow.Author.Tests.{le-leb, lt-leb, leb-true, ltb-true, lt-ltb, le-ltb}
+use borrow.Author.Tests.{le-leb, ltb-true, lt-ltb}
 use lib.Dec.{leb, ltb}
-use lib.ListN.{length, drop}
+use lib.ListN.{length}
 use Rattle.limits.specs.Limits.{linkLimit}
-use Rattle.refusal.specs.Refusal.{unlessOf, lowerOf, lowest}
-use Rattle.refusal.proofs.Laws.{is-lowest}
+use Rattle.refusal.specs.Refusal.{unlessOf, lowerOf}
 use Rattle.topology.specs.declared.Counted.{Counted}
 use Rattle.topology.specs.Parents.{parentOf, parentsFit, branch}
 use Rattle.topology.specs.Answers.{Outcome, given, refusalOf, branchAnswer}
 use Rattle.topology.proofs.Branch.{branch-none, branch-alone, branch-longer}
 use Rattle.arm.specs.declared.Arm.{Arm}
-use Rattle.arm.specs.Arm.{liveLinks, parentsOf}
+use Rattle.arm.specs.Arm.{isLink, parentsOf}
 use Rattle.topology.proofs.Refused.{accepted}
 use Rattle.arm.specs.HandedIn.{parentsEarlier, armEntries}
 use Rattle.arm.proofs.Accepted.{first-holds, rest-accepted, counts-accepted, parents-accepted}
@@ -119,10 +116,10 @@ unfolding armBranch branchAnswer branchRefusal branchNeeded neededIn parentsEarl
 branch-accepted n a link ps m w p z q =
     let e = sym p ∙ z in
     let b = branch (parentsOf a) link in
-    let own = unlessOf (ltb link (a .«link_count»)) 4 in
+    let own = unlessOf (isLink a link) 4 in
     let on = rest-accepted (unlessOf (leb (neededIn (parentsOf a) link) (length m)) 1) (own ∷ armEntries a) e in
     let arm = rest-accepted own (armEntries a) on in
-    let below = ltb-true link (a .«link_count») (first-holds (ltb link (a .«link_count»)) 3 (armEntries a) on) in
+    let below = ltb-true link (a .«link_count») (first-holds (isLink a link) 3 (armEntries a) on) in
     let room = counts-accepted a arm .0 in
     let fit : parentsFit (parentsOf a) ≡ true = parents-accepted a arm in
     let l : link < length (parentsOf a) = omega (arith, parents-live a w) in

@@ -1,8 +1,7 @@
--- Theorems about views and branches: each refusal is the lowest of its list, a view is exactly the link's entries, and arms that agree up to
+-- Theorems about what is read of an arm: each refusal is the lowest of its list, a view is exactly the link's entries, and arms that agree up to
 -- their counts get the same answers. Assumes nothing.
-use Prim.Native.Nat.{ℕ, zero, suc, min, _+_, _≤_, _<_}
-use mathlib.Core.Path.{_≡_, refl, sym, ap, _∙_}
-use mathlib.Core.Bool.{true}
+use Prim.Native.Nat.{ℕ, zero, suc, _+_, _≤_, _<_}
+use mathlib.Core.Path.{_≡_, refl, _∙_}
 use mathlib.Core.List.{List}
 use native.Mathlib.Omega.{arith}
 use lib.ListN.{length, take, drop, getD, length-take, length-drop}
@@ -10,21 +9,35 @@ use lib.Seq.{getD-take, getD-drop}
 use lib.Ieee.{Float, nan}
 use Rattle.refusal.specs.Refusal.{Lowest}
 use Rattle.refusal.proofs.Laws.{is-lowest}
-use Rattle.masks.specs.Masks.{isFree, dofsBelow, dofsOf}
+use Rattle.masks.specs.Masks.{dofsBelow, dofsOf}
 use Rattle.masks.proofs.Laws.{below-free}
 use Rattle.arm.specs.declared.Arm.{Arm}
-use Rattle.arm.specs.Arm.{parentsOf, maskAt, startAt}
+use Rattle.arm.specs.Arm.{maskAt, startAt}
 use Rattle.arm.specs.Edits.{dofAt}
 use Rattle.arm.specs.Agree.{Agree, Sized}
-use Rattle.arm.proofs.Agree.{same-parents, same-mask-at, same-start, same-dofs, same-entries}
+use Rattle.arm.proofs.Agree.{same-parents, same-mask-at, same-start, same-dofs, same-entries, same-arm-refusal}
 use Rattle.arm_views.specs.declared.Role.{Role}
 use Rattle.arm_views.specs.declared.Role.the-variants.{Velocities, Accelerations}
+use Rattle.arm_views.specs.Numbers.{startEntries, startRefusal, startAnswer, dofsAnswer}
+use Rattle.arm_views.specs.Links.{springEntries, springRefusal, springAnswer, mulEntries, mulRefusal, mulAnswer}
 use Rattle.arm_views.specs.Branch.{branchNeeded, branchEntries, branchRefusal, armBranch}
 use Rattle.arm_views.specs.View.{rowOf, ownPart, viewEntries, viewRefusal, viewBy, viewAnswer}
 use Rattle.arm_views.specs.Words.{OwnEntries}
 use Rattle.arm_views.proofs.Views.{Within, view-within}
 
 -- ---- each refusal is the lowest of its list
+
+pub spring-lowest : (a : Arm) (link axis : ℕ) → Lowest (springEntries a link axis) (springRefusal a link axis)
+unfolding springRefusal
+spring-lowest a link axis = is-lowest (springEntries a link axis)
+
+pub mul-lowest : (a : Arm) (link : ℕ) (acc : List Float) → Lowest (mulEntries a link acc) (mulRefusal a link acc)
+unfolding mulRefusal
+mul-lowest a link acc = is-lowest (mulEntries a link acc)
+
+pub start-lowest : (a : Arm) (link : ℕ) → Lowest (startEntries a link) (startRefusal a link)
+unfolding startRefusal
+start-lowest a link = is-lowest (startEntries a link)
 
 pub branch-lowest : (a : Arm) (link room : ℕ) → Lowest (branchEntries a link room) (branchRefusal a link room)
 unfolding branchRefusal
@@ -77,3 +90,19 @@ module _ (a b : Arm) (g : Agree a b) where
   pub view-same : (role : Role) (link : ℕ) (v w : List Float) → viewAnswer a role link v w ≡ viewAnswer b role link v w
   unfolding viewAnswer viewRefusal ownPart
   view-same role link v w = cc (same-entries a b g, same-mask-at a b g link, same-start a b g link, same-dofs a b g)
+
+  pub spring-same : (link axis : ℕ) → springAnswer a link axis ≡ springAnswer b link axis
+  unfolding springAnswer springRefusal
+  spring-same link axis = cc (same-entries a b g)
+
+  pub mul-same : (link : ℕ) (accelerations : List Float) → mulAnswer a link accelerations ≡ mulAnswer b link accelerations
+  unfolding mulAnswer mulRefusal
+  mul-same link accelerations = cc (same-entries a b g, same-mask-at a b g link)
+
+  pub start-same : (link : ℕ) → startAnswer a link ≡ startAnswer b link
+  unfolding startAnswer startRefusal
+  start-same link = rw (same-entries a b g, same-start a b g link, g .link-count)
+
+  pub dofs-same : dofsAnswer a ≡ dofsAnswer b
+  unfolding dofsAnswer
+  dofs-same = rw (same-arm-refusal a b g, same-dofs a b g)

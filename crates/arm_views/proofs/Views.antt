@@ -1,6 +1,6 @@
 -- A row view, accepted or refused, from what its parts give: an accepted one's part lies within both rows. Assumes nothing.
-use Prim.Native.Nat.{ℕ, zero, suc, _+_, _-_, _≤_, _<_}
-use mathlib.Core.Path.{_≡_, refl, sym, ap, _∙_}
+use Prim.Native.Nat.{ℕ, zero, suc, _+_, _-_, _≤_}
+use mathlib.Core.Path.{_≡_, ap, _∙_}
 use mathlib.Core.Bool.{_&&_}
 use mathlib.Core.List.{List, [], _∷_}
 use native.Mathlib.Omega.{arith}
@@ -9,10 +9,10 @@ use lib.Dec.{leb, ltb}
 use lib.ListN.{length, take, drop}
 use lib.Ieee.{Float}
 use Rattle.limits.specs.Limits.{linkLimit, dofLimit}
-use Rattle.refusal.specs.Refusal.{unlessOf, lowest}
+use Rattle.refusal.specs.Refusal.{unlessOf}
 use Rattle.masks.specs.Masks.{dofsOf}
 use Rattle.arm.specs.declared.Arm.{Arm}
-use Rattle.arm.specs.Arm.{liveLinks, maskAt, startAt, dofCountOf}
+use Rattle.arm.specs.Arm.{isLink, maskAt, startAt, dofCountOf}
 use Rattle.arm.specs.HandedIn.{armEntries}
 use Rattle.arm.proofs.Accepted.{first-holds, rest-accepted, both-hold, counts-accepted}
 use Rattle.arm.proofs.Live.{part-within, dof-count-le}
@@ -29,10 +29,10 @@ pub view-within : (a : Arm) (link v w : ℕ) → length (a .links) ≡ linkLimit
 unfolding viewRefusal
 view-within a link v w l e =
     let rooms = leb (dofCountOf a) v && leb (dofCountOf a) w in
-    let both = both-hold (leb (dofCountOf a) v) (leb (dofCountOf a) w) (first-holds rooms 0 (unlessOf (ltb link (a .«link_count»)) 4 ∷ armEntries a) e) in
-    let on = rest-accepted (unlessOf rooms 1) (unlessOf (ltb link (a .«link_count»)) 4 ∷ armEntries a) e in
-    let below = ltb-true link (a .«link_count») (first-holds (ltb link (a .«link_count»)) 3 (armEntries a) on) in
-    let room = counts-accepted a (rest-accepted (unlessOf (ltb link (a .«link_count»)) 4) (armEntries a) on) .0 in
+    let both = both-hold (leb (dofCountOf a) v) (leb (dofCountOf a) w) (first-holds rooms 0 (unlessOf (isLink a link) 4 ∷ armEntries a) e) in
+    let on = rest-accepted (unlessOf rooms 1) (unlessOf (isLink a link) 4 ∷ armEntries a) e in
+    let below = ltb-true link (a .«link_count») (first-holds (isLink a link) 3 (armEntries a) on) in
+    let room = counts-accepted a (rest-accepted (unlessOf (isLink a link) 4) (armEntries a) on) .0 in
     let part = part-within a l link (omega arith) in
     let h₁ = leb-true (dofCountOf a) v (both .0) in
     let h₂ = leb-true (dofCountOf a) w (both .1) in

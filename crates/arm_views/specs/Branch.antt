@@ -1,7 +1,7 @@
 -- `kinematic_branch` of an arm: from the root to a link, into lent memory.
 use Prim.Native.Nat.{ℕ}
 use mathlib.Core.Bool.{cond, _&&_}
-use mathlib.Core.List.{List, [], _∷_}
+use mathlib.Core.List.{List, _∷_}
 use lib.Dec.{leb, ltb}
 use lib.ListN.{length}
 use Rattle.refusal.specs.Refusal.{unlessOf, lowest}
@@ -9,7 +9,7 @@ use Rattle.topology.specs.Parents.{parentsFit, branch}
 use Rattle.topology.specs.Answers.{Outcome, given}
 use Rattle.topology.specs.declared.Counted.{Counted}
 use Rattle.arm.specs.declared.Arm.{Arm}
-use Rattle.arm.specs.Arm.{parentsOf}
+use Rattle.arm.specs.Arm.{isLink, parentsOf}
 use Rattle.arm.specs.HandedIn.{armEntries}
 
 -- the answer of a call and what the memory lent to it then holds
@@ -24,7 +24,7 @@ unfoldable pub branchNeeded : Arm → ℕ → ℕ
 branchNeeded a link = neededIn (parentsOf a) link
 
 abbrev pub branchEntries : Arm → ℕ → ℕ → List ℕ
-branchEntries a link room = unlessOf (leb (branchNeeded a link) room) 1 ∷ unlessOf (ltb link (a .«link_count»)) 4 ∷ armEntries a
+branchEntries a link room = unlessOf (leb (branchNeeded a link) room) 1 ∷ unlessOf (isLink a link) 4 ∷ armEntries a
 
 unfoldable pub branchRefusal : Arm → ℕ → ℕ → ℕ
 branchRefusal a link room = lowest (branchEntries a link room)

@@ -1,3 +1,5 @@
+pub mod Numbers
+pub mod Links
 pub mod Branch
 pub mod View
 pub mod Words

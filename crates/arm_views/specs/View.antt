@@ -8,7 +8,7 @@ use lib.Ieee.{Float}
 use Rattle.refusal.specs.Refusal.{unlessOf, lowest}
 use Rattle.masks.specs.Masks.{dofsOf}
 use Rattle.arm.specs.declared.Arm.{Arm}
-use Rattle.arm.specs.Arm.{maskAt, startAt, dofCountOf}
+use Rattle.arm.specs.Arm.{isLink, maskAt, startAt, dofCountOf}
 use Rattle.arm.specs.HandedIn.{armEntries}
 use Rattle.arm_views.specs.declared.Role.{Role}
 use Rattle.arm_views.specs.declared.Role.the-variants.{Velocities, Accelerations}
@@ -34,7 +34,7 @@ ownPart a link row = take (dofsOf (maskAt a link)) (drop (startAt a link) row)
 abbrev pub viewEntries : Arm → ℕ → ℕ → ℕ → List ℕ
 viewEntries a link velocities accelerations =
     unlessOf (leb (dofCountOf a) velocities && leb (dofCountOf a) accelerations) 1
-    ∷ unlessOf (ltb link (a .«link_count»)) 4
+    ∷ unlessOf (isLink a link) 4
     ∷ armEntries a
 
 unfoldable pub viewRefusal : Arm → ℕ → ℕ → ℕ → ℕ

@@ -1,6 +1,10 @@
-// What is read out of an arm through lent memory: the branch of a link, and a link's own part of a row. Entry points: links are any numbers,
-// the arm handed in is tested, and the lowest refusal of all is given.
+// What is read of an arm: starts, springs, accelerations on their axes, the branch of a link, a link's own part of a row. Each is an entry
+// point: links and axes are any numbers, the arm handed in is tested, and the lowest refusal of all is given.
 ghost use mathlib.Core.Path.{_≡_};
+ghost use lib.ListN.{take};
+ghost use Rattle.floats.specs.Floats.{allFinite};
+ghost use Rattle.arm_views.specs.Numbers.{startRefusal, startAnswer, dofsAnswer};
+ghost use Rattle.arm_views.specs.Links.{springRefusal, springAnswer, mulRefusal, mulAnswer};
 ghost use Rattle.arm_views.specs.Branch.{out, branchNeeded, branchRefusal, armBranch};
 ghost use Rattle.arm_views.specs.View.{seen, viewRefusal, viewAnswer};
 use arm::Arm;
@@ -10,11 +14,143 @@ use arm::live_links;
 use arm::mask_at;
 use arm::parents_of;
 use arm::start_of;
+use floats::all_finite;
 use limits::LINKS;
+use masks::Count;
 use masks::dofs;
+use masks::is_axis;
+use multibody_joint::Spring;
 use refusal::lower;
 use refusal::unless;
 use topology::Counted;
+
+// ---- Starts
+
+fn start_refusal(arm: Arm, link: u32) -> u8
+    ensures { λ r. ⌜ r ≡ startRefusal arm link ⌝ }
+{
+    lower(
+        unless((link as usize) < arm.link_count, 4),
+        arm_refusal(arm),
+    )
+}
+
+// The start of a link.
+pub fn link_start(arm: Arm, link: u32) -> Count
+    ensures { λ r. ⌜ r ≡ startAnswer arm link ⌝ }
+{
+    let refusal = start_refusal(arm, link);
+    if refusal != 0 {
+        return Count { refusal, count: 0 };
+    }
+    Count {
+        refusal: 0,
+        count: start_of(arm, link as usize) as u8,
+    }
+}
+
+// The DoF count of an arm.
+pub fn arm_dofs(arm: Arm) -> Count
+    ensures { λ r. ⌜ r ≡ dofsAnswer arm ⌝ }
+{
+    let refusal = arm_refusal(arm);
+    if refusal != 0 {
+        return Count { refusal, count: 0 };
+    }
+    Count {
+        refusal: 0,
+        count: dof_count(arm) as u8,
+    }
+}
+
+// ---- Springs
+
+fn spring_refusal(arm: Arm, link: u32, axis: u32) -> u8
+    ensures { λ r. ⌜ r ≡ springRefusal arm link axis ⌝ }
+{
+    lower(
+        unless((link as usize) < arm.link_count, 4),
+        lower(unless(is_axis(axis), 5), arm_refusal(arm)),
+    )
+}
+
+#[repr(C)]
+pub struct SpringAnswer {
+    pub refusal: u8,
+    pub spring: Spring,
+}
+
+// The spring of an axis of a link's joint, locked or not.
+pub fn spring(arm: Arm, link: u32, axis: u32) -> SpringAnswer
+    ensures { λ r. ⌜ r ≡ springAnswer arm link axis ⌝ }
+{
+    let refusal = spring_refusal(arm, link, axis);
+    if refusal != 0 {
+        return SpringAnswer {
+            refusal,
+            spring: Spring {
+                stiffness: 0.0,
+                rest: 0.0,
+            },
+        };
+    }
+    let at = link as usize;
+    let l = arm.links[at];
+    SpringAnswer {
+        refusal: 0,
+        spring: multibody_joint::spring_of(l.joint, axis as u8),
+    }
+}
+
+// ---- Accelerations on their axes
+
+// Are the first n floats finite, or all where there are fewer?
+fn first_finite(s: &[f32], n: usize) -> bool
+    ensures { λ r. ⌜ r ≡ allFinite (take n (now (s .entry))) ⌝ }
+{
+    if n <= s.len() {
+        return all_finite(&s[0..n]);
+    }
+    all_finite(s)
+}
+
+fn mul_refusal(arm: Arm, link: u32, accelerations: &[f32]) -> u8
+    ensures { λ r. ⌜ r ≡ mulRefusal arm link (now (accelerations .entry)) ⌝ }
+{
+    let n = dofs(mask_at(arm, link as usize));
+    lower(
+        unless(n <= accelerations.len(), 1),
+        lower(
+            unless((link as usize) < arm.link_count, 4),
+            lower(unless(first_finite(accelerations, n), 7), arm_refusal(arm)),
+        ),
+    )
+}
+
+#[repr(C)]
+pub struct AxesAnswer {
+    pub refusal: u8,
+    pub axes: [f32; 3],
+}
+
+// The accelerations of a link's joint, put on their axes.
+pub fn jacobian_mul_coordinates(arm: Arm, link: u32, accelerations: &[f32]) -> AxesAnswer
+    ensures { λ r. ⌜ r ≡ mulAnswer arm link (now (accelerations .entry)) ⌝ }
+{
+    let refusal = mul_refusal(arm, link, accelerations);
+    if refusal != 0 {
+        return AxesAnswer {
+            refusal,
+            axes: [0.0; 3],
+        };
+    }
+    let at = link as usize;
+    let l = arm.links[at];
+    AxesAnswer {
+        refusal: 0,
+        axes: multibody_joint::jacobian_mul_coordinates(l.joint, accelerations),
+    }
+}
 
 // ---- The branch of a link
 

@@ -51,6 +51,7 @@ fn take_away(row: &mut [f32], pivot: &[f32], factor: f32)
     }
 }
 
+// A row below the pivot row: its factor, and right of it what is left.
 fn reduce_row(k: usize, row: &mut [f32], pivot: &[f32])
     requires { ⌜ (k < length (now row)) × (length (now row) ≡ length (now pivot)) ⌝ }
     ensures { λ _. ⌜ now (row .exit) ≡ reducedRow k (now (pivot .entry)) (now (row .entry)) ⌝ }
@@ -61,6 +62,7 @@ fn reduce_row(k: usize, row: &mut [f32], pivot: &[f32])
     take_away(&mut row[j..], &pivot[j..], factor);
 }
 
+// So all rows below row k.
 fn reduce_below(n: usize, k: usize, rows: &mut [f32], pivot: &[f32])
     requires { ⌜ (k < n) × (length (now rows) ≡ n * n) × (length (now pivot) ≡ n) ⌝ }
     ensures { λ _. ⌜ now (rows .exit) ≡ reduced n k (now (pivot .entry)) (n - (k + 1)) (k + 1) (now (rows .entry)) ⌝ }
@@ -170,6 +172,7 @@ fn clear_swaps(s: &mut [usize])
     }
 }
 
+// The factors of rows that are just n by n; with trouble nothing is left of them.
 fn factor_whole(n: usize, rows: &mut [f32], swaps: &mut [usize]) -> u8
     requires { ⌜ (n ≤ dofLimit) × (length (now rows) ≡ n * n) × (length (now swaps) ≡ n) ⌝ }
     ensures { λ r. ⌜ factors r (now (rows .exit)) (now (swaps .exit)) ≡ factored n (now (rows .entry)) ⌝ }

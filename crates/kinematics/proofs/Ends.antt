@@ -5,7 +5,6 @@ use mathlib.Core.Bool.{Bool, true, false, cond}
 use mathlib.Core.List.{List, _++_}
 use native.Mathlib.Omega.{arith}
 use borrow.Author.Tests.{lt-leb, le-leb}
-use lib.Dec.{leb}
 use lib.ListN.{length, drop, replicate, length-replicate, getD-replicate, length-append}
 use lib.Ieee.{Float}
 use Rattle.limits.specs.Limits.{linkLimit, blockSize, tableSize}

@@ -16,7 +16,6 @@ use Rattle.floats.specs.Floats.{zero32, allFinite}
 use Rattle.masks.specs.Masks.{dofsOf}
 use Rattle.masks.specs.Starts.{startOf, totalOf}
 use Rattle.masks.proofs.Totals.{start-next, start-le}
-use Rattle.multibody_joint.specs.declared.Joint.{Joint}
 use Rattle.arm.specs.declared.Link.{Link}
 use Rattle.kinematics.specs.declared.Posed.{Posed}
 use Rattle.kinematics.specs.Blocks.{part, zeroBlock, blockAt, withBlock, copiedFrom}
@@ -92,18 +91,10 @@ module _ (ls : List Link) (b : ℕ → Bool) (t : List Float) where
 
 -- ---- one turn
 
--- the fields that a link and its blank share
-blank-joint : (l m : Link) → blank l ≡ blank m → l .joint ≡ m .joint
-unfolding withPlace
-blank-joint l m e = ap (λ (x : Link). x .joint) e
-
+-- a link and its blank share the centre
 blank-centre : (l m : Link) → blank l ≡ blank m → l .centre ≡ m .centre
 unfolding withPlace
 blank-centre l m e = ap (λ (x : Link). x .centre) e
-
-blank-parent : (l m : Link) → blank l ≡ blank m → l .parent ≡ m .parent
-unfolding withPlace
-blank-parent l m e = ap (λ (x : Link). x .parent) e
 
 -- what a turn leaves of a link is k
 pub record Turn (l : Link) (link : Link) (own : List Float) (fine : Bool) (k : Kept) : Type 0 where
@@ -136,12 +127,14 @@ module _ (ls : List Link) (n : ℕ) (fit : n ≤ linkLimit) (sized : length ls �
   same-blank : (k : ℕ) → blank (linkAt links k) ≡ blank (linkAt ls k)
   same-blank k = ap (λ (l : List Link). blank (linkAt l k)) el ∙ after-blank ls j b t k
 
-  pub own-joint : linkAt links j .joint ≡ linkAt ls j .joint
-  own-joint = blank-joint (linkAt links j) (linkAt ls j) (same-blank j)
-
-  own-parent : linkAt links j .parent ≡ par
+  own-parent : linkAt ls j .parent ≡ par
   unfolding parentOf
-  own-parent = blank-parent (linkAt links j) (linkAt ls j) (same-blank j)
+  own-parent = refl
+
+  -- the link so far differs from the given one in what is kept of it alone
+  same-with : (k : Kept) → withKept (linkAt ls j) k ≡ withKept (linkAt links j) k
+  unfolding withPlace
+  same-with k = sym (ap (λ (l : Link). withKept l k) (same-blank j))
 
   -- a parent's block, in the work area where the parent is marked, else in the tables
   above-block : (k : ℕ) → k < j → blockAt k (cond (b k) work t) ≡ keptAt s k .block
@@ -161,59 +154,59 @@ module _ (ls : List Link) (n : ℕ) (fit : n ≤ linkLimit) (sized : length ls �
       go false e = refl
 
   -- the link is posed and its block copied as the definition has it
-  posed-later : par < j → posedOf true (linkAt links par) (linkAt links j) ≡ laterPosed (keptAt s par .world) (x .above) (x .joint) (x .centre)
+  posed-later : par < j → posedOf true (linkAt links par) (linkAt ls j) ≡ laterPosed (keptAt s par .world) (x .above) (x .joint) (x .centre)
   unfolding posedOf keptAt inputsOf
   posed-later q =
-      rw (own-joint, blank-centre (linkAt links j) (linkAt ls j) (same-blank j), blank-centre (linkAt links par) (linkAt ls par) (same-blank par), el)
+      rw (blank-centre (linkAt links par) (linkAt ls par) (same-blank par), el)
 
-  posed-root : (above : Link) → posedOf false above (linkAt links j) ≡ rootPosed (x .joint) (x .centre)
+  posed-root : (above : Link) → posedOf false above (linkAt ls j) ≡ rootPosed (x .joint) (x .centre)
   unfolding posedOf inputsOf
-  posed-root above = rw (own-joint, blank-centre (linkAt links j) (linkAt ls j) (same-blank j))
+  posed-root above = refl
 
   -- ---- the turn, as the code has its parts
 
-  module _ (p start : ℕ) (ep : p ≡ min (linkAt links j .parent) j) (es : start ≡ startOf (map lockedOf ls) j) (c own : List Float) (ec : c ≡ copiedFrom (ltb p j) (b p) (p * blockSize) t work)
-      (link : Link) (fine : Bool) (turn : TurnedTo (posedOf (ltb p j) (linkAt links p) (linkAt links j)) (linkAt links j) start c own link fine) where
+  module _ (p start : ℕ) (ep : p ≡ min (linkAt ls j .parent) j) (es : start ≡ startOf (map lockedOf ls) j) (c own : List Float) (ec : c ≡ copiedFrom (ltb p j) (b p) (p * blockSize) t work)
+      (link : Link) (fine : Bool) (turn : TurnedTo (posedOf (ltb p j) (linkAt links p) (linkAt ls j)) (linkAt ls j) start c own link fine) where
     at-start : start ≡ x .start
     unfolding inputsOf
     at-start = es
 
-    at-joint : linkAt links j .joint ≡ x .joint
+    at-joint : linkAt ls j .joint ≡ x .joint
     unfolding inputsOf
-    at-joint = own-joint
+    at-joint = refl
 
-    below : ltb p j ≡ false → Turn (linkAt links j) link own fine (rootKept x)
+    below : ltb p j ≡ false → Turn (linkAt ls j) link own fine (rootKept x)
     unfolding rootKept copiedFrom
     below q =
-        turned-kept _ _ (linkAt links j) x start c _ own link fine
-        (ap (λ (m : Bool). posedOf m (linkAt links p) (linkAt links j)) q ∙ posed-root (linkAt links p))
+        turned-kept _ _ (linkAt ls j) x start c _ own link fine
+        (ap (λ (m : Bool). posedOf m (linkAt links p) (linkAt ls j)) q ∙ posed-root (linkAt links p))
         (ec ∙ ap (λ (m : Bool). copiedFrom m (b p) (p * blockSize) t work) q)
         at-start at-joint turn
 
-    above : p ≡ par → par < j → Turn (linkAt links j) link own fine (laterKept (keptAt s par) x)
+    above : p ≡ par → par < j → Turn (linkAt ls j) link own fine (laterKept (keptAt s par) x)
     unfolding laterKept copiedFrom
     above e q =
         let m : ltb p j ≡ true = ap (λ (k : ℕ). ltb k j) e ∙ lt-ltb par j q in
-        turned-kept _ _ (linkAt links j) x start c _ own link fine
-        (ap₂ (λ (m : Bool) (k : ℕ). posedOf m (linkAt links k) (linkAt links j)) m e ∙ posed-later q)
+        turned-kept _ _ (linkAt ls j) x start c _ own link fine
+        (ap₂ (λ (m : Bool) (k : ℕ). posedOf m (linkAt links k) (linkAt ls j)) m e ∙ posed-later q)
         (ec ∙ ap₂ (λ (m : Bool) (k : ℕ). copiedFrom m (b k) (k * blockSize) t work) m e ∙ above-block par q)
         at-start at-joint turn
 
-    turned : Turn (linkAt links j) link own fine (newOf ls b t j)
+    turned : Turn (linkAt ls j) link own fine (newOf ls b t j)
     turned = elim (decLt par j) [
       | yes q ↦
           let e : p ≡ par = omega (arith, own-parent) in
-          subst (Turn (linkAt links j) link own fine) (sym (ap (λ (m : Bool). cond m (laterKept (keptAt s par) x) (rootKept x)) (lt-ltb par j q))) (above e q)
+          subst (Turn (linkAt ls j) link own fine) (sym (ap (λ (m : Bool). cond m (laterKept (keptAt s par) x) (rootKept x)) (lt-ltb par j q))) (above e q)
       | no q ↦
           let e : j ≤ p = omega (arith, own-parent) in
           let l : j ≤ par = omega arith in
-          subst (Turn (linkAt links j) link own fine) (sym (ap (λ (m : Bool). cond m (laterKept (keptAt s par) x) (rootKept x)) (le-ltb par j l))) (below (le-ltb p j e))
+          subst (Turn (linkAt ls j) link own fine) (sym (ap (λ (m : Bool). cond m (laterKept (keptAt s par) x) (rootKept x)) (le-ltb par j l))) (below (le-ltb p j e))
     ]
 
     -- what the loop then holds
     module _ (m : b j ≡ true) where
       pub turn-links : set links j link ≡ stateAfter ls (j + 1) b t .links
-      turn-links = more-links ls b t j links el m link (turned .place)
+      turn-links = more-links ls b t j links el m link (turned .place ∙ same-with (newOf ls b t j))
 
       pub turn-work : withBlock j own work ≡ laid b (newBlock ls b t) (j + 1) work₀
       unfolding newBlock
@@ -246,12 +239,10 @@ held-none ls n b t work₀ p q = record {
 }
 
 module _ (ls : List Link) (n : ℕ) (fit : n ≤ linkLimit) (sized : length ls ≡ linkLimit) (b : ℕ → Bool) (t work₀ : List Float) (long : tableSize ≤ length t) (enough : length work₀ ≡ tableSize)
-    (j start : ℕ) (work : List Float) (links : List Link) (fine : Bool) (k : Held ls n b t work₀ j start work links fine) (h : j < n) (d : ℕ) (ed : d ≡ dofsOf (linkAt links j .joint .locked))
+    (j start : ℕ) (work : List Float) (links : List Link) (fine : Bool) (k : Held ls n b t work₀ j start work links fine) (h : j < n) (d : ℕ) (ed : d ≡ dofsOf (linkAt ls j .joint .locked))
     (work′ : List Float) (links′ : List Link) (fine′ : Bool) where
   next-start : start + d ≡ startOf (map lockedOf ls) (j + 1)
-  next-start =
-      start-more ls j start d (omega arith) (k .begins)
-      (ed ∙ ap (λ (y : Joint). dofsOf (y .locked)) (own-joint ls n fit sized b t work₀ long enough j h links (k .refreshed) work (k .blocks)))
+  next-start = start-more ls j start d (omega arith) (k .begins) ed
 
   -- an unmarked link
   pub held-skip : b j ≡ false → work′ ≡ work → links′ ≡ links → fine′ ≡ fine → Held ls n b t work₀ (j + 1) (start + d) work′ links′ fine′
@@ -266,7 +257,7 @@ module _ (ls : List Link) (n : ℕ) (fit : n ≤ linkLimit) (sized : length ls �
   }
 
   -- a marked one: its place in the work area took the block that it copies, and then its own
-  module _ (m : b j ≡ true) (p : ℕ) (ep : p ≡ min (linkAt links j .parent) j) (work₁ : List Float) (e₁ : work₁ ≡ withBlock j (copiedFrom (ltb p j) (b p) (p * blockSize) t work) work) where
+  module _ (m : b j ≡ true) (p : ℕ) (ep : p ≡ min (linkAt ls j .parent) j) (work₁ : List Float) (e₁ : work₁ ≡ withBlock j (copiedFrom (ltb p j) (b p) (p * blockSize) t work) work) where
     abbrev c : List Float
     c = copiedFrom (ltb p j) (b p) (p * blockSize) t work
 
@@ -291,12 +282,12 @@ module _ (ls : List Link) (n : ℕ) (fit : n ≤ linkLimit) (sized : length ls �
         ∙ with-with (j * blockSize) blockSize c own work (omega (arith, k .room, fit, h)) copied-length
 
     pub held-more : (own : List Float) (link : Link) (ok : Bool)
-        → TurnedTo (posedOf (ltb p j) (linkAt links p) (linkAt links j)) (linkAt links j) start (take ((j * blockSize + blockSize) - j * blockSize) (drop (j * blockSize) work₁)) own link ok
+        → TurnedTo (posedOf (ltb p j) (linkAt links p) (linkAt ls j)) (linkAt ls j) start (take ((j * blockSize + blockSize) - j * blockSize) (drop (j * blockSize) work₁)) own link ok
         → work′ ≡ take (j * blockSize) work₁ ++ (own ++ drop ((j * blockSize + blockSize) - j * blockSize) (drop (j * blockSize) work₁))
         → length own ≡ length (take ((j * blockSize + blockSize) - j * blockSize) (drop (j * blockSize) work₁))
         → links′ ≡ set links j link → fine′ ≡ (fine && ok) → Held ls n b t work₀ (j + 1) (start + d) work′ links′ fine′
     held-more own link ok turn₁ ew lw el ef =
-        let turn = subst (λ (y : List Float). TurnedTo (posedOf (ltb p j) (linkAt links p) (linkAt links j)) (linkAt links j) start y own link ok) placed turn₁ in
+        let turn = subst (λ (y : List Float). TurnedTo (posedOf (ltb p j) (linkAt links p) (linkAt ls j)) (linkAt ls j) start y own link ok) placed turn₁ in
         record {
           within = omega arith;
           places = ap length el ∙ length-set links j link ∙ k .places;

@@ -246,7 +246,7 @@ fn work_out(
     let mut start: usize = 0;
     let mut j: usize = 0;
     while j < n {
-        let l = links[j];
+        let l = given[j];
         if marks[j] {
             let p = fewer(l.parent as usize, j);
             let above = links[p];

@@ -21,12 +21,14 @@ pub struct Count {
     pub count: u8,
 }
 
+// A mask is at most 7.
 pub fn is_mask(mask: u32) -> bool
     ensures { λ r. ⌜ r ≡ isMask mask ⌝ }
 {
     mask <= 7
 }
 
+// An axis is at most 2.
 pub fn is_axis(axis: u32) -> bool
     ensures { λ r. ⌜ r ≡ isAxis axis ⌝ }
 {

@@ -165,12 +165,14 @@ pub fn rotation_of(p: Pose) -> Rotation
     Rotation { re: p.re, im: p.im }
 }
 
+// A pose's translation.
 pub fn translation_of(p: Pose) -> Point
     ensures { λ r. ⌜ r ≡ translationOf p ⌝ }
 {
     Point { x: p.x, y: p.y }
 }
 
+// The pose of a rotation and a translation.
 pub fn pose_of(r: Rotation, t: Point) -> Pose
     ensures { λ p. ⌜ p ≡ posed r t ⌝ }
 {
@@ -182,6 +184,7 @@ pub fn pose_of(r: Rotation, t: Point) -> Pose
     }
 }
 
+// The pose that moves nothing.
 pub fn identity() -> Pose
     ensures { λ p. ⌜ p ≡ identityPose ⌝ }
 {
@@ -193,6 +196,7 @@ pub fn identity() -> Pose
     }
 }
 
+// Rotation b, then rotation a.
 pub fn rotation_product(a: Rotation, b: Rotation) -> Rotation
     ensures { λ r. ⌜ r ≡ rotationProduct a b ⌝ }
 {
@@ -223,6 +227,7 @@ pub fn placed(a: Pose, p: Point) -> Point
     }
 }
 
+// a less b.
 pub fn difference(a: Point, b: Point) -> Point
     ensures { λ r. ⌜ r ≡ pointDifference a b ⌝ }
 {
@@ -232,6 +237,7 @@ pub fn difference(a: Point, b: Point) -> Point
     }
 }
 
+// Pose b, then pose a.
 pub fn product(a: Pose, b: Pose) -> Pose
     ensures { λ p. ⌜ p ≡ poseProduct a b ⌝ }
 {
@@ -241,6 +247,7 @@ pub fn product(a: Pose, b: Pose) -> Pose
     )
 }
 
+// The pose that takes a pose back.
 pub fn inverse(p: Pose) -> Pose
     ensures { λ q. ⌜ q ≡ poseInverse p ⌝ }
 {
@@ -262,18 +269,21 @@ pub fn is_turn(r: Rotation) -> bool
     (LEAST_EXCESS <= excess) & (excess <= 0.001)
 }
 
+// Are both its floats finite?
 pub fn is_finite_rotation(r: Rotation) -> bool
     ensures { λ ok. ⌜ ok ≡ finiteRotation r ⌝ }
 {
     finite(r.re) & finite(r.im)
 }
 
+// Are both its floats finite?
 pub fn is_finite_point(p: Point) -> bool
     ensures { λ ok. ⌜ ok ≡ finitePoint p ⌝ }
 {
     finite(p.x) & finite(p.y)
 }
 
+// Are its four floats finite?
 pub fn is_finite_pose(p: Pose) -> bool
     ensures { λ ok. ⌜ ok ≡ finitePose p ⌝ }
 {

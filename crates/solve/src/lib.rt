@@ -94,6 +94,7 @@ fn unknowns(n: usize, factors: &[f32], swaps: &[usize], right: &[f32], x: &mut [
     substitute_backward(n, factors, x);
 }
 
+// The solution by factors and swaps of just the needed length.
 fn substitute_whole(
     n: usize,
     factors: &[f32],

@@ -1,3 +1,5 @@
 pub mod Refused
 pub mod Passed
 mod Emptied
+pub mod Tests
+pub mod Again

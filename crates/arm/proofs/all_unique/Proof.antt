@@ -1,17 +1,14 @@
-use Rattle.arm.proofs.Lists.{tail}
-use Rattle.arm.specs.HandedIn.{isNew}
-use lib.Seq.{take-all}
-use Rattle.arm.proofs.Every.{TestedUnique, unique-all, unique-more}
-use lib.ListN.{length, drop, getD, length-drop}
+-- `all_unique`: each tag is new among the later ones; what is tested so far, with what is left, is the whole test. Assumes nothing.
+use lib.ListN.{length, getD}
 use Prim.Native.Nat.{_-_, _≤_, _+_}
 use mathlib.Core.Path.{refl, _∙_, ap}
 use native.Mathlib.Omega.{arith}
 use borrow.Author.Needs.{needs}
+use Rattle.arm.proofs.Lists.{tail}
+use Rattle.arm.specs.HandedIn.{isNew}
+use Rattle.arm.proofs.Every.{TestedUnique, unique-all, unique-more}
 use Rattle.arm.proofs.all_unique.Statement.{statement}
 use Rattle.arm.proofs.all_unique.Tie as tie
-use Rattle.arm.proofs.all_unique.Reads as reads
-use Rattle.arm.proofs.all_unique.Lts as lts
-use Rattle.arm.proofs.is_new.Reads as is-new-reads
 
 abbrev Inv-loop : tie.InvT-loop
 Inv-loop tags ok₀ i₀ ok i = (i ≤ length tags) × TestedUnique tags i ok
@@ -19,58 +16,45 @@ Inv-loop tags ok₀ i₀ ok i = (i ≤ length tags) × TestedUnique tags i ok
 abbrev μ-loop : tie.MeasureT-loop
 μ-loop tags ok₀ i₀ ok i = length tags - i
 
--- src/lib.rt:188:5
 loop-holds : tie.Need-loop-holds Inv-loop μ-loop
 loop-holds c = (omega arith, refl)
 
--- src/lib.rt:189:26
 mul-is-new : tie.Need-mul-is-new Inv-loop μ-loop
 mul-is-new c = search needs
 
--- src/lib.rt:189:26
 shared-slice-read-is-new : tie.Need-shared-slice-read-is-new Inv-loop μ-loop
 shared-slice-read-is-new c = search needs
 
--- src/lib.rt:189:41
 add-is-new : tie.Need-add-is-new Inv-loop μ-loop
 add-is-new c = search needs
 
--- src/lib.rt:189:35
 mul-is-new-2 : tie.Need-mul-is-new-2 Inv-loop μ-loop
 mul-is-new-2 c = search needs
 
--- src/lib.rt:189:35
 sub-is-new : tie.Need-sub-is-new Inv-loop μ-loop
 sub-is-new c = search needs
 
--- src/lib.rt:189:35
 part-is-new-start : tie.Need-part-is-new-start Inv-loop μ-loop
 part-is-new-start c = search needs
 
--- src/lib.rt:189:35
 part-is-new-end : tie.Need-part-is-new-end Inv-loop μ-loop
 part-is-new-end c = search needs
 
--- src/lib.rt:189:19
 is-new-requires : tie.Need-is-new-requires Inv-loop μ-loop
 is-new-requires c κs = search needs
 
--- src/lib.rt:190:9
 add-i : tie.Need-add-i Inv-loop μ-loop
 add-i c = search needs
 
--- src/lib.rt:188:5
 loop-less : tie.Need-loop-less Inv-loop μ-loop
 loop-less c = search needs
 
--- src/lib.rt:188:5
 loop-again : tie.Need-loop-again Inv-loop μ-loop
-loop-again c = 
+loop-again c =
     let ts = c .before .before .before .before .before .before .args .tags .now in
     let k = c .before .before .before .before .loop in
     (omega arith, unique-more ts (k .i) (k .ok) (c .is-new .result) (omega arith) (c .is-new .ensures ∙ ap (isNew (getD ts (k .i) 0)) (tail ts (k .i + 1))) (k .inv .1))
 
--- src/lib.rt:183:1
 returns : tie.Need-returns Inv-loop μ-loop
 returns c = unique-all (c .before .before .before .args .tags .now) (c .before .loop .i) (c .before .loop .ok) (omega arith) (c .before .loop .inv .1)
 

@@ -1,20 +1,15 @@
-use Rattle.arm.specs.HandedIn.{angleFits}
+-- `angle_fits`: the test of the third coordinate. Assumes nothing.
 use borrow.Author.Needs.{needs}
+use Rattle.arm.specs.HandedIn.{angleFits}
 use Rattle.arm.proofs.angle_fits.Statement.{statement}
 use Rattle.arm.proofs.angle_fits.Tie as tie
-use Rattle.arm.proofs.angle_fits.Reads as reads
-use Rattle.arm.proofs.angle_fits.Lts as lts
-use Rattle.planar.proofs.is_beyond.Reads as is-beyond-reads
 
--- src/lib.rt:225:16
 array-read-is-beyond : tie.Need-array-read-is-beyond
 array-read-is-beyond c = search needs
 
--- src/lib.rt:225:6
 is-beyond-requires : tie.Need-is-beyond-requires
 is-beyond-requires c κs = search needs
 
--- src/lib.rt:221:1
 returns : tie.Need-returns
 unfolding angleFits
 returns c = cc

@@ -1,25 +1,19 @@
-use Rattle.limits.specs.Limits.{couplingLimit}
-use Rattle.arm.specs.Arm.{couplingsOf}
+-- `coupling_tests`: one pass; of each test, what is tested so far, with what is left, is the whole. Assumes nothing.
 use mathlib.Core.Bool.{Bool}
-use Rattle.arm.proofs.Every.{Tested, front-more, front-all}
-use Rattle.arm.proofs.Shape.{couplings-length}
-use Rattle.arm.specs.HandedIn.{couplingAxesFit, couplingFinite, couplingLinksFit, couplingTestsOf}
 use lib.ListN.{length, take}
 use Prim.Native.Nat.{_-_, _≤_, ℕ, min}
 use mathlib.Core.Path.{_≡_, refl}
 use native.Mathlib.Omega.{arith}
 use borrow.Author.Needs.{needs}
-use Rattle.arm.proofs.coupling_tests.Statement.{statement}
-use Rattle.arm.proofs.coupling_tests.Tie as tie
-use Rattle.arm.proofs.coupling_tests.Reads as reads
-use Rattle.arm.proofs.coupling_tests.Lts as lts
-use Rattle.arm.proofs.axes_fit.Reads as axes-fit-reads
-use Rattle.arm.proofs.fewer.Reads as fewer-reads
-use Rattle.arm.proofs.is_finite_coupling.Reads as is-finite-coupling-reads
-use Rattle.arm.proofs.links_fit.Reads as links-fit-reads
-
+use Rattle.limits.specs.Limits.{couplingLimit}
+use Rattle.arm.specs.Arm.{couplingsOf}
+use Rattle.arm.proofs.Every.{Tested, front-more, front-all}
+use Rattle.arm.proofs.Shape.{couplings-length}
+use Rattle.arm.specs.HandedIn.{couplingAxesFit, couplingFinite, couplingLinksFit, couplingTestsOf}
 use Rattle.arm.specs.declared.Arm.{Arm}
 use Rattle.arm.specs.declared.CouplingTests.{CouplingTests}
+use Rattle.arm.proofs.coupling_tests.Statement.{statement}
+use Rattle.arm.proofs.coupling_tests.Tie as tie
 
 ended : (a : Arm) → length (a .couplings) ≡ couplingLimit → (n i : ℕ) (l x f : Bool) → n ≡ min (a .«coupling_count») couplingLimit → n ≤ i
     → Tested (couplingLinksFit (a .«link_count»)) (take n (a .couplings)) i l → Tested couplingAxesFit (take n (a .couplings)) i x
@@ -37,57 +31,48 @@ Inv-loop arm n links₀ axes₀ floats₀ i₀ links axes floats i = (n ≡ min 
 abbrev μ-loop : tie.MeasureT-loop
 μ-loop arm n links₀ axes₀ floats₀ i₀ links axes floats i = n - i
 
--- src/lib.rt:298:9
 fewer-requires : tie.Need-fewer-requires Inv-loop μ-loop
 fewer-requires c κs = search needs
 
--- src/lib.rt:303:5
 loop-holds : tie.Need-loop-holds Inv-loop μ-loop
 loop-holds c = (c .fewer .ensures, omega arith, refl, refl, refl)
 
--- src/lib.rt:304:17
 mul-c : tie.Need-mul-c Inv-loop μ-loop
 mul-c c = search needs
 
--- src/lib.rt:304:17
 element-copy-out-c : tie.Need-element-copy-out-c Inv-loop μ-loop
 element-copy-out-c c = search needs
 
--- src/lib.rt:305:25
 links-fit-requires : tie.Need-links-fit-requires Inv-loop μ-loop
 links-fit-requires c κs = search needs
 
--- src/lib.rt:306:23
 axes-fit-requires : tie.Need-axes-fit-requires Inv-loop μ-loop
 axes-fit-requires c κs = search needs
 
--- src/lib.rt:307:27
 is-finite-coupling-requires : tie.Need-is-finite-coupling-requires Inv-loop μ-loop
 is-finite-coupling-requires c κs = search needs
 
--- src/lib.rt:308:9
 add-i : tie.Need-add-i Inv-loop μ-loop
 add-i c = search needs
 
--- src/lib.rt:303:5
 loop-less : tie.Need-loop-less Inv-loop μ-loop
 loop-less c = search needs
 
--- src/lib.rt:303:5
 loop-again : tie.Need-loop-again Inv-loop μ-loop
-loop-again c = 
+loop-again c =
     let a = c .before .before .before .before .before .before .before .args .t1 in
     let k = c .before .before .before .before .before .loop in
     let w = couplings-length a (c .before .before .before .before .before .before .before .good .0) in
-    let fits : c .before .before .before .before .before .before .fewer .result ≤ length (a .couplings) = omega arith in
-    (k .inv .0, omega arith,
-    front-more (couplingLinksFit (a .«link_count»)) (a .couplings) _ fits (k .i) (k .links) _ _ (omega arith) (c .before .before .links-fit .ensures) (k .inv .2),
-    front-more couplingAxesFit (a .couplings) _ fits (k .i) (k .axes) _ _ (omega arith) (c .before .axes-fit .ensures) (k .inv .3),
-    front-more couplingFinite (a .couplings) _ fits (k .i) (k .floats) _ _ (omega arith) (c .is-finite-coupling .ensures) (k .inv .4))
+    let fits : c .before .before .before .before .before .before .fewer .result ≤ length (a .couplings) = omega arith in (
+      k .inv .0,
+      omega arith,
+      front-more (couplingLinksFit (a .«link_count»)) (a .couplings) _ fits (k .i) (k .links) _ _ (omega arith) (c .before .before .links-fit .ensures) (k .inv .2),
+      front-more couplingAxesFit (a .couplings) _ fits (k .i) (k .axes) _ _ (omega arith) (c .before .axes-fit .ensures) (k .inv .3),
+      front-more couplingFinite (a .couplings) _ fits (k .i) (k .floats) _ _ (omega arith) (c .is-finite-coupling .ensures) (k .inv .4),
+    )
 
--- src/lib.rt:295:1
 returns : tie.Need-returns Inv-loop μ-loop
-returns c = 
+returns c =
     let a = c .before .before .before .args .t1 in
     let k = c .before .loop in
     ended a (couplings-length a (c .before .before .before .good .0)) _ (k .i) (k .links) (k .axes) (k .floats) (k .inv .0) (omega arith) (k .inv .2) (k .inv .3) (k .inv .4)

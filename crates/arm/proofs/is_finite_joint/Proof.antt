@@ -1,50 +1,36 @@
-use Rattle.arm.specs.HandedIn.{jointFinite}
+-- `is_finite_joint`: the tests of its parts. Assumes nothing.
 use borrow.Author.Needs.{needs}
+use Rattle.arm.specs.HandedIn.{jointFinite}
 use Rattle.arm.proofs.is_finite_joint.Statement.{statement}
 use Rattle.arm.proofs.is_finite_joint.Tie as tie
-use Rattle.arm.proofs.is_finite_joint.Reads as reads
-use Rattle.arm.proofs.is_finite_joint.Lts as lts
-use Rattle.floats.proofs.all_finite.Reads as all-finite-reads
-use Rattle.planar.proofs.is_finite_pose.Reads as is-finite-pose-reads
-use Rattle.planar.proofs.is_finite_rotation.Reads as is-finite-rotation-reads
 
--- src/lib.rt:209:5
 is-finite-pose-requires : tie.Need-is-finite-pose-requires
 is-finite-pose-requires c κs = search needs
 
--- src/lib.rt:209:32
 is-finite-pose-requires-2 : tie.Need-is-finite-pose-requires-2
 is-finite-pose-requires-2 c κs = search needs
 
--- src/lib.rt:209:70
 slice-aggregate-all-finite : tie.Need-slice-aggregate-all-finite
 slice-aggregate-all-finite c = search needs
 
--- src/lib.rt:209:59
 all-finite-requires : tie.Need-all-finite-requires
 all-finite-requires c κs = search needs
 
--- src/lib.rt:209:86
 is-finite-rotation-requires : tie.Need-is-finite-rotation-requires
 is-finite-rotation-requires c κs = search needs
 
--- src/lib.rt:210:22
 slice-aggregate-all-finite-2 : tie.Need-slice-aggregate-all-finite-2
 slice-aggregate-all-finite-2 c = search needs
 
--- src/lib.rt:210:11
 all-finite-requires-2 : tie.Need-all-finite-requires-2
 all-finite-requires-2 c κs = search needs
 
--- src/lib.rt:210:47
 slice-aggregate-all-finite-3 : tie.Need-slice-aggregate-all-finite-3
 slice-aggregate-all-finite-3 c = search needs
 
--- src/lib.rt:210:36
 all-finite-requires-3 : tie.Need-all-finite-requires-3
 all-finite-requires-3 c κs = search needs
 
--- src/lib.rt:203:1
 returns : tie.Need-returns
 unfolding jointFinite
 returns c = cc

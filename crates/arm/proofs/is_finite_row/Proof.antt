@@ -1,31 +1,24 @@
+-- `is_finite_row`: the test of the row's front. Assumes nothing.
 use native.Mathlib.Nat.{sub-zero}
-use Rattle.arm.proofs.Shape.{row-length}
 use native.Mathlib.Omega.{arith}
-use Rattle.arm.specs.HandedIn.{rowFinite}
 use borrow.Author.Needs.{needs}
+use Rattle.arm.proofs.Shape.{row-length}
+use Rattle.arm.specs.HandedIn.{rowFinite}
 use Rattle.arm.proofs.is_finite_row.Statement.{statement}
 use Rattle.arm.proofs.is_finite_row.Tie as tie
-use Rattle.arm.proofs.is_finite_row.Reads as reads
-use Rattle.arm.proofs.is_finite_row.Lts as lts
-use Rattle.floats.proofs.all_finite.Reads as all-finite-reads
 
--- src/lib.rt:324:16
 sub-all-finite : tie.Need-sub-all-finite
 sub-all-finite c = search needs
 
--- src/lib.rt:324:16
 part-all-finite-start : tie.Need-part-all-finite-start
 part-all-finite-start c = search needs
 
--- src/lib.rt:324:16
 part-all-finite-end : tie.Need-part-all-finite-end
 part-all-finite-end c = omega (arith, row-length (c .before .before .args .row) (c .before .before .good .0))
 
--- src/lib.rt:324:5
 all-finite-requires : tie.Need-all-finite-requires
 all-finite-requires c κs = search needs
 
--- src/lib.rt:319:1
 returns : tie.Need-returns
 unfolding rowFinite
 returns c = simp sub-zero at (c .all-finite .ensures)

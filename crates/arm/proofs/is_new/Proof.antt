@@ -1,14 +1,13 @@
-use Rattle.arm.proofs.Every.{Tested, tested-all, tested-more, tested-none}
-use Rattle.arm.specs.HandedIn.{differs}
+-- `is_new`: what is tested so far, with what is left, is the whole test. Assumes nothing.
 use lib.ListN.{length}
 use Prim.Native.Nat.{_-_, _≤_}
 use mathlib.Core.Path.{refl}
 use native.Mathlib.Omega.{arith}
 use borrow.Author.Needs.{needs}
+use Rattle.arm.proofs.Every.{Tested, tested-all, tested-more, tested-none}
+use Rattle.arm.specs.HandedIn.{differs}
 use Rattle.arm.proofs.is_new.Statement.{statement}
 use Rattle.arm.proofs.is_new.Tie as tie
-use Rattle.arm.proofs.is_new.Reads as reads
-use Rattle.arm.proofs.is_new.Lts as lts
 
 abbrev Inv-loop : tie.InvT-loop
 Inv-loop tag others new₀ i₀ new i = (i ≤ length others) × Tested (differs tag) others i new
@@ -16,31 +15,24 @@ Inv-loop tag others new₀ i₀ new i = (i ≤ length others) × Tested (differs
 abbrev μ-loop : tie.MeasureT-loop
 μ-loop tag others new₀ i₀ new i = length others - i
 
--- src/lib.rt:175:5
 loop-holds : tie.Need-loop-holds Inv-loop μ-loop
 loop-holds c = (omega arith, tested-none _ _)
 
--- src/lib.rt:176:22
 mul-new : tie.Need-mul-new Inv-loop μ-loop
 mul-new c = search needs
 
--- src/lib.rt:176:22
 shared-slice-read-new : tie.Need-shared-slice-read-new Inv-loop μ-loop
 shared-slice-read-new c = search needs
 
--- src/lib.rt:177:9
 add-i : tie.Need-add-i Inv-loop μ-loop
 add-i c = search needs
 
--- src/lib.rt:175:5
 loop-less : tie.Need-loop-less Inv-loop μ-loop
 loop-less c = search needs
 
--- src/lib.rt:175:5
 loop-again : tie.Need-loop-again Inv-loop μ-loop
 loop-again c = (omega arith, tested-more (differs (c .before .before .before .args .tag)) (c .before .before .before .args .others .now) (c .before .before .loop .i) (c .before .before .loop .new) _ 0 (omega arith) refl (c .before .before .loop .inv .1))
 
--- src/lib.rt:170:1
 returns : tie.Need-returns Inv-loop μ-loop
 returns c = tested-all (differs (c .before .before .args .tag)) (c .before .before .args .others .now) (c .before .loop .i) (c .before .loop .new) (omega arith) (c .before .loop .inv .1)
 

@@ -1,36 +1,27 @@
-use Rattle.arm.specs.HandedIn.{jointMasksFit}
+-- `masks_fit`: the tests of the three masks. Assumes nothing.
 use borrow.Author.Needs.{needs}
+use Rattle.arm.specs.HandedIn.{jointMasksFit}
 use Rattle.arm.proofs.masks_fit.Statement.{statement}
 use Rattle.arm.proofs.masks_fit.Tie as tie
-use Rattle.arm.proofs.masks_fit.Reads as reads
-use Rattle.arm.proofs.masks_fit.Lts as lts
-use Rattle.masks.proofs.is_mask.Reads as is-mask-reads
 
--- src/lib.rt:200:13
 cast-is-mask : tie.Need-cast-is-mask
 cast-is-mask c = search needs
 
--- src/lib.rt:200:5
 is-mask-requires : tie.Need-is-mask-requires
 is-mask-requires c κs = search needs
 
--- src/lib.rt:200:40
 cast-is-mask-2 : tie.Need-cast-is-mask-2
 cast-is-mask-2 c = search needs
 
--- src/lib.rt:200:32
 is-mask-requires-2 : tie.Need-is-mask-requires-2
 is-mask-requires-2 c κs = search needs
 
--- src/lib.rt:200:66
 cast-is-mask-3 : tie.Need-cast-is-mask-3
 cast-is-mask-3 c = search needs
 
--- src/lib.rt:200:58
 is-mask-requires-3 : tie.Need-is-mask-requires-3
 is-mask-requires-3 c κs = search needs
 
--- src/lib.rt:197:1
 returns : tie.Need-returns
 unfolding jointMasksFit
 returns c = cc

@@ -1,17 +1,16 @@
+-- `parents_of`: the array is filled from the front. Assumes nothing.
 use mathlib.Core.List.{map}
-use Rattle.limits.specs.Limits.{linkLimit}
-use Rattle.arm.proofs.Shape.{links-length}
-use Rattle.arm.proofs.Lists.{filled-all, filled-more, map-at}
-use Rattle.arm.specs.Arm.{parentOf}
 use lib.ListN.{length, length-map, length-set, take}
 use Prim.Native.Nat.{_-_, _≤_}
 use mathlib.Core.Path.{_≡_, refl, sym}
 use native.Mathlib.Omega.{arith}
 use borrow.Author.Needs.{needs}
+use Rattle.limits.specs.Limits.{linkLimit}
+use Rattle.arm.proofs.Shape.{links-length}
+use Rattle.arm.proofs.Lists.{filled-all, filled-more, map-at}
+use Rattle.arm.specs.Arm.{parentOf}
 use Rattle.arm.proofs.parents_of.Statement.{statement}
 use Rattle.arm.proofs.parents_of.Tie as tie
-use Rattle.arm.proofs.parents_of.Reads as reads
-use Rattle.arm.proofs.parents_of.Lts as lts
 
 abbrev Inv-loop : tie.InvT-loop
 Inv-loop arm parents₀ i₀ parents i = (i ≤ linkLimit) × (length parents ≡ linkLimit) × (take i parents ≡ take i (map parentOf (arm .links)))
@@ -19,42 +18,34 @@ Inv-loop arm parents₀ i₀ parents i = (i ≤ linkLimit) × (length parents �
 abbrev μ-loop : tie.MeasureT-loop
 μ-loop arm parents₀ i₀ parents i = linkLimit - i
 
--- src/lib.rt:115:5
 loop-holds : tie.Need-loop-holds Inv-loop μ-loop
 loop-holds c = (omega arith, refl, refl)
 
--- src/lib.rt:116:17
 mul-l : tie.Need-mul-l Inv-loop μ-loop
 mul-l c = search needs
 
--- src/lib.rt:116:17
 element-copy-out-l : tie.Need-element-copy-out-l Inv-loop μ-loop
 element-copy-out-l c = search needs
 
--- src/lib.rt:117:9
 array-write-parents : tie.Need-array-write-parents Inv-loop μ-loop
 array-write-parents c = search needs
 
--- src/lib.rt:118:9
 add-i : tie.Need-add-i Inv-loop μ-loop
 add-i c = search needs
 
--- src/lib.rt:115:5
 loop-less : tie.Need-loop-less Inv-loop μ-loop
 loop-less c = search needs
 
--- src/lib.rt:115:5
 loop-again : tie.Need-loop-again Inv-loop μ-loop
-loop-again c = 
+loop-again c =
     let a = c .before .before .before .args .t1 in
     let k = c .before .before .loop in
     let n : length (a .links) ≡ linkLimit = links-length a (c .before .before .before .good .0) in
     let m : length (map parentOf (a .links)) ≡ length (a .links) = length-map (a .links) parentOf in
     (omega arith, simp length-set (k .inv .1), filled-more (map parentOf (a .links)) (k .parents) (k .i) 0 _ (omega arith) (omega arith) (k .inv .2) (sym (map-at parentOf (a .links) (k .i) _ 0 (omega arith))))
 
--- src/lib.rt:110:1
 returns : tie.Need-returns Inv-loop μ-loop
-returns c = 
+returns c =
     let a = c .before .before .args .t1 in
     let k = c .before .loop in
     let n : length (a .links) ≡ linkLimit = links-length a (c .before .before .good .0) in

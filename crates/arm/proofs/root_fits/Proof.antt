@@ -1,20 +1,16 @@
+-- `root_fits`: no link, or the first one's mask. Assumes nothing.
+use borrow.Author.Needs.{needs}
 use Rattle.arm.proofs.Shape.{links-length}
 use Rattle.arm.proofs.Live.{root-none, root-some}
-use borrow.Author.Needs.{needs}
 use Rattle.arm.proofs.root_fits.Statement.{statement}
 use Rattle.arm.proofs.root_fits.Tie as tie
-use Rattle.arm.proofs.root_fits.Reads as reads
-use Rattle.arm.proofs.root_fits.Lts as lts
 
--- src/lib.rt:262:9
 returns : tie.Need-returns
 returns c = root-none (c .before .args .t1) (c .if1 .taken)
 
--- src/lib.rt:264:16
 element-copy-out-root : tie.Need-element-copy-out-root
 element-copy-out-root c = search needs
 
--- src/lib.rt:258:1
 returns-2 : tie.Need-returns-2
 returns-2 c = root-some (c .before .before .before .before .args .t1) (links-length (c .before .before .before .before .args .t1) (c .before .before .before .before .good .0)) _ (c .before .before .before .if1 .left)
 

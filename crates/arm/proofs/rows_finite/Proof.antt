@@ -1,24 +1,20 @@
-use Rattle.floats.specs.Floats.{allFinite}
+-- `rows_finite`: what is tested so far, with what is left, is the whole test. Assumes nothing.
 use lib.ListN.{length}
 use mathlib.Core.Bool.{Bool}
+use Prim.Native.Nat.{_-_, _≤_, ℕ}
+use mathlib.Core.Path.{_≡_, refl, _∙_, ap, sym}
+use native.Mathlib.Omega.{arith}
+use borrow.Author.Needs.{needs}
+use Rattle.floats.specs.Floats.{allFinite}
 use Rattle.arm.proofs.Every.{Tested, tested-more, every-map, tested-all}
 use Rattle.arm.proofs.Shape.{rows-length}
 use Rattle.arm.proofs.Live.{dof-count-le}
 use Rattle.arm.specs.Arm.{dofCountOf, entriesTo, rowsOf}
 use Rattle.arm.specs.HandedIn.{rowFinite, every, rowsFinite}
-use Prim.Native.Nat.{_-_, _≤_, ℕ}
-use mathlib.Core.Path.{_≡_, refl, _∙_, ap, sym}
-use native.Mathlib.Omega.{arith}
-use borrow.Author.Needs.{needs}
-use Rattle.arm.proofs.rows_finite.Statement.{statement}
-use Rattle.arm.proofs.rows_finite.Tie as tie
-use Rattle.arm.proofs.rows_finite.Reads as reads
-use Rattle.arm.proofs.rows_finite.Lts as lts
-use Rattle.arm.proofs.dof_count.Reads as dof-count-reads
-use Rattle.arm.proofs.is_finite_row.Reads as is-finite-row-reads
-
 use Rattle.arm.specs.declared.Arm.{Arm}
 use Rattle.arm.specs.declared.Row.{Row}
+use Rattle.arm.proofs.rows_finite.Statement.{statement}
+use Rattle.arm.proofs.rows_finite.Tie as tie
 
 ended : (a : Arm) → length (a .rows) ≡ 5 → (n i : ℕ) (ok : Bool) → n ≡ dofCountOf a → 5 ≤ i → Tested (rowFinite n) (a .rows) i ok
     → ok ≡ rowsFinite a
@@ -34,45 +30,36 @@ Inv-loop arm n ok₀ i₀ ok i = (n ≡ dofCountOf arm) × (i ≤ 5) × Tested (
 abbrev μ-loop : tie.MeasureT-loop
 μ-loop arm n ok₀ i₀ ok i = 5 - i
 
--- src/lib.rt:331:9
 dof-count-requires : tie.Need-dof-count-requires Inv-loop μ-loop
 dof-count-requires c κs = search needs
 
--- src/lib.rt:334:5
 loop-holds : tie.Need-loop-holds Inv-loop μ-loop
 loop-holds c = (c .dof-count .ensures, omega arith, refl)
 
--- src/lib.rt:335:19
 mul-row : tie.Need-mul-row Inv-loop μ-loop
 mul-row c = search needs
 
--- src/lib.rt:335:19
 element-copy-out-row : tie.Need-element-copy-out-row Inv-loop μ-loop
 element-copy-out-row c = search needs
 
--- src/lib.rt:336:19
 is-finite-row-requires : tie.Need-is-finite-row-requires Inv-loop μ-loop
 is-finite-row-requires c κs = omega (arith, dof-count-le (c .before .before .before .before .args .t1), c .before .before .loop .inv .0)
 
--- src/lib.rt:337:9
 add-i : tie.Need-add-i Inv-loop μ-loop
 add-i c = search needs
 
--- src/lib.rt:334:5
 loop-less : tie.Need-loop-less Inv-loop μ-loop
 loop-less c = search needs
 
--- src/lib.rt:334:5
 loop-again : tie.Need-loop-again Inv-loop μ-loop
-loop-again c = 
+loop-again c =
     let a = c .before .before .before .before .before .args .t1 in
     let k = c .before .before .before .loop in
     let w = rows-length a (c .before .before .before .before .before .good .0) in
     (k .inv .0, omega arith, tested-more (rowFinite _) (a .rows) (k .i) (k .ok) _ _ (omega arith) (c .is-finite-row .ensures) (k .inv .2))
 
--- src/lib.rt:328:1
 returns : tie.Need-returns Inv-loop μ-loop
-returns c = 
+returns c =
     let a = c .before .before .before .args .t1 in
     let k = c .before .loop in
     ended a (rows-length a (c .before .before .before .good .0)) _ (k .i) (k .ok) (k .inv .0) (omega arith) (k .inv .2)

@@ -1,17 +1,16 @@
+-- `tags_of`: the array is filled from the front. Assumes nothing.
 use mathlib.Core.List.{map}
-use Rattle.limits.specs.Limits.{linkLimit}
-use Rattle.arm.proofs.Shape.{links-length}
-use Rattle.arm.proofs.Lists.{filled-all, filled-more, map-at}
-use Rattle.arm.specs.Arm.{tagOf}
 use lib.ListN.{length, length-map, length-set, take}
 use Prim.Native.Nat.{_-_, _≤_}
 use mathlib.Core.Path.{_≡_, refl, sym}
 use native.Mathlib.Omega.{arith}
 use borrow.Author.Needs.{needs}
+use Rattle.limits.specs.Limits.{linkLimit}
+use Rattle.arm.proofs.Shape.{links-length}
+use Rattle.arm.proofs.Lists.{filled-all, filled-more, map-at}
+use Rattle.arm.specs.Arm.{tagOf}
 use Rattle.arm.proofs.tags_of.Statement.{statement}
 use Rattle.arm.proofs.tags_of.Tie as tie
-use Rattle.arm.proofs.tags_of.Reads as reads
-use Rattle.arm.proofs.tags_of.Lts as lts
 
 abbrev Inv-loop : tie.InvT-loop
 Inv-loop arm tags₀ i₀ tags i = (i ≤ linkLimit) × (length tags ≡ linkLimit) × (take i tags ≡ take i (map tagOf (arm .links)))
@@ -19,46 +18,37 @@ Inv-loop arm tags₀ i₀ tags i = (i ≤ linkLimit) × (length tags ≡ linkLim
 abbrev μ-loop : tie.MeasureT-loop
 μ-loop arm tags₀ i₀ tags i = linkLimit - i
 
--- src/lib.rt:101:5
 loop-holds : tie.Need-loop-holds Inv-loop μ-loop
 loop-holds c = (omega arith, refl, refl)
 
--- src/lib.rt:102:17
 mul-l : tie.Need-mul-l Inv-loop μ-loop
 mul-l c = search needs
 
--- src/lib.rt:102:17
 element-copy-out-l : tie.Need-element-copy-out-l Inv-loop μ-loop
 element-copy-out-l c = search needs
 
--- src/lib.rt:103:9
 mul-tags : tie.Need-mul-tags Inv-loop μ-loop
 mul-tags c = search needs
 
--- src/lib.rt:103:9
 array-write-tags : tie.Need-array-write-tags Inv-loop μ-loop
 array-write-tags c = search needs
 
--- src/lib.rt:104:9
 add-i : tie.Need-add-i Inv-loop μ-loop
 add-i c = search needs
 
--- src/lib.rt:101:5
 loop-less : tie.Need-loop-less Inv-loop μ-loop
 loop-less c = search needs
 
--- src/lib.rt:101:5
 loop-again : tie.Need-loop-again Inv-loop μ-loop
-loop-again c = 
+loop-again c =
     let a = c .before .before .before .args .t1 in
     let k = c .before .before .loop in
     let n : length (a .links) ≡ linkLimit = links-length a (c .before .before .before .good .0) in
     let m : length (map tagOf (a .links)) ≡ length (a .links) = length-map (a .links) tagOf in
     (omega arith, simp length-set (k .inv .1), filled-more (map tagOf (a .links)) (k .tags) (k .i) 0 _ (omega arith) (omega arith) (k .inv .2) (sym (map-at tagOf (a .links) (k .i) _ 0 (omega arith))))
 
--- src/lib.rt:96:1
 returns : tie.Need-returns Inv-loop μ-loop
-returns c = 
+returns c =
     let a = c .before .before .args .t1 in
     let k = c .before .loop in
     let n : length (a .links) ≡ linkLimit = links-length a (c .before .before .good .0) in

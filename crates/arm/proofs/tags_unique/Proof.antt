@@ -1,42 +1,31 @@
+-- `tags_unique`: the front of all tags are the tags of the links that count. Assumes nothing.
+use mathlib.Core.Path.{_∙_, ap}
+use borrow.Author.Needs.{needs}
 use Rattle.arm.proofs.Shape.{links-length}
 use Rattle.arm.proofs.Lists.{front}
 use Rattle.arm.proofs.Live.{tags-front}
-use mathlib.Core.Path.{_∙_, ap}
 use Rattle.arm.specs.HandedIn.{tagsUnique, unique}
-use borrow.Author.Needs.{needs}
 use Rattle.arm.proofs.tags_unique.Statement.{statement}
 use Rattle.arm.proofs.tags_unique.Tie as tie
-use Rattle.arm.proofs.tags_unique.Reads as reads
-use Rattle.arm.proofs.tags_unique.Lts as lts
-use Rattle.arm.proofs.all_unique.Reads as all-unique-reads
-use Rattle.arm.proofs.live_links.Reads as live-links-reads
-use Rattle.arm.proofs.tags_of.Reads as tags-of-reads
 
--- src/lib.rt:198:9
 live-links-requires : tie.Need-live-links-requires
 live-links-requires c κs = search needs
 
--- src/lib.rt:199:16
 tags-of-requires : tie.Need-tags-of-requires
 tags-of-requires c κs = search needs
 
--- src/lib.rt:200:16
 sub-all-unique : tie.Need-sub-all-unique
 sub-all-unique c = search needs
 
--- src/lib.rt:200:16
 part-all-unique-start : tie.Need-part-all-unique-start
 part-all-unique-start c = search needs
 
--- src/lib.rt:200:16
 part-all-unique-end : tie.Need-part-all-unique-end
 part-all-unique-end c = search needs
 
--- src/lib.rt:200:5
 all-unique-requires : tie.Need-all-unique-requires
 all-unique-requires c κs = search needs
 
--- src/lib.rt:195:1
 returns : tie.Need-returns
 unfolding tagsUnique
 returns c = c .all-unique .ensures ∙ ap unique (front _ _ (c .before .before .before .before .live-links .ensures) (c .before .before .before .tags-of .ensures) ∙ tags-front (c .before .before .before .before .before .args .arm) (links-length (c .before .before .before .before .before .args .arm) (c .before .before .before .before .before .good .0)))

@@ -1,57 +1,43 @@
+-- `kinematic_branch`: an accepted call is accepted for the bare parents; a refusal leaves the memory. Assumes nothing.
 use Rattle.arm.proofs.Shape.{links-length}
 use Rattle.arm.proofs.Lists.{front}
 use Rattle.arm.proofs.Live.{parents-front}
-use Rattle.arm_views.proofs.Branches.{branch-accepted, branch-refused}
+-- `kinematic_branch`: an accepted call is accepted for the bare parents; a refusal leaves the memory. Assumes nothing.
 use mathlib.Core.Path.{_∙_}
 use borrow.Author.Needs.{needs}
+use Rattle.arm_views.proofs.Branches.{branch-accepted, branch-refused}
 use Rattle.arm_views.proofs.kinematic_branch.Statement.{statement}
 use Rattle.arm_views.proofs.kinematic_branch.Tie as tie
-use Rattle.arm_views.proofs.kinematic_branch.Reads as reads
-use Rattle.arm_views.proofs.kinematic_branch.Lts as lts
-use Rattle.arm.proofs.live_links.Reads as live-links-reads
-use Rattle.arm.proofs.parents_of.Reads as parents-of-reads
-use Rattle.arm_views.proofs.branch_refusal.Reads as branch-refusal-reads
-use Rattle.topology.proofs.kinematic_branch.Reads as kinematic-branch-reads
 
--- src/lib.rt:48:9
 branch-refusal-requires : tie.Need-branch-refusal-requires
 branch-refusal-requires c κs = search needs
 
--- src/lib.rt:50:9
 returns : tie.Need-returns
 returns c = branch-refused (c .before .branch-refusal .result) (c .before .before .before .args .arm) (c .before .before .before .args .link) (c .before .before .before .args .to .now) (c .before .branch-refusal .ensures) (c .if1 .taken)
 
--- src/lib.rt:52:9
 live-links-requires : tie.Need-live-links-requires
 live-links-requires c κs = search needs
 
--- src/lib.rt:53:19
 parents-of-requires : tie.Need-parents-of-requires
 parents-of-requires c κs = search needs
 
--- src/lib.rt:54:32
 sub-kinematic-branch : tie.Need-sub-kinematic-branch
 sub-kinematic-branch c = search needs
 
--- src/lib.rt:54:32
 part-kinematic-branch-start : tie.Need-part-kinematic-branch-start
 part-kinematic-branch-start c = search needs
 
--- src/lib.rt:54:32
 part-kinematic-branch-end : tie.Need-part-kinematic-branch-end
 part-kinematic-branch-end c = search needs
 
--- src/lib.rt:54:5
 kinematic-branch-requires : tie.Need-kinematic-branch-requires
 kinematic-branch-requires c κs = search needs
 
--- src/lib.rt:45:1
 same-length : tie.Need-same-length
 same-length c = search needs
 
--- src/lib.rt:45:1
 returns-2 : tie.Need-returns-2
-returns-2 c = 
+returns-2 c =
     let a = c .before .before .before .before .before .before .before .before .before .before .before .args .arm in
     let w = links-length a (c .before .before .before .before .before .before .before .before .before .before .before .good .0) in
     c .before .before .kinematic-branch .ensures ∙ branch-accepted (c .before .before .before .before .before .before .before .before .before .branch-refusal .result) a (c .before .before .before .before .before .before .before .before .before .before .before .args .link) _ (c .before .before .before .before .before .before .before .before .before .before .before .args .to .now) w (c .before .before .before .before .before .before .before .before .before .branch-refusal .ensures) (c .before .before .before .before .before .before .before .before .if1 .left) (front _ _ (c .before .before .before .before .before .before .before .live-links .ensures) (c .before .before .before .before .before .before .parents-of .ensures) ∙ parents-front a w)

@@ -1,107 +1,82 @@
-use Rattle.arm_views.specs.declared.Role.{Role}
+-- `row_view`: an accepted part lies within both rows; refused, it is empty. Assumes nothing.
 use Rattle.arm.proofs.Shape.{links-length}
-use Rattle.arm_views.proofs.Views.{end-at, seen-some, view-within, view-done}
+-- `row_view`: an accepted part lies within both rows; refused, it is empty. Assumes nothing.
 use lib.ListN.{length}
 use mathlib.Core.Path.{_∙_, sym, ap}
 use native.Mathlib.Omega.{arith}
-use Rattle.arm_views.specs.View.{viewAnswer, rowOf}
 use borrow.Author.Needs.{needs}
+use Rattle.arm_views.specs.declared.Role.{Role}
+use Rattle.arm_views.proofs.Views.{end-at, seen-some, view-within, view-done}
+use Rattle.arm_views.specs.View.{viewAnswer, rowOf}
 use Rattle.arm_views.proofs.row_view.Statement.{statement}
 use Rattle.arm_views.proofs.row_view.Tie as tie
-use Rattle.arm_views.proofs.row_view.Reads as reads
-use Rattle.arm_views.proofs.row_view.Lts as lts
-use Rattle.arm.proofs.mask_at.Reads as mask-at-reads
-use Rattle.arm.proofs.start_of.Reads as start-of-reads
-use Rattle.arm_views.proofs.view_refusal.Reads as view-refusal-reads
-use Rattle.masks.proofs.dofs.Reads as dofs-reads
 
--- src/lib.rt:90:9
 view-refusal-requires : tie.Need-view-refusal-requires
 view-refusal-requires c κs = search needs
 
--- src/lib.rt:93:16
 sub-result : tie.Need-sub-result
 sub-result c = search needs
 
--- src/lib.rt:93:16
 part-result-start : tie.Need-part-result-start
 part-result-start c = search needs
 
--- src/lib.rt:93:16
 part-result-end : tie.Need-part-result-end
 part-result-end c = search needs
 
--- src/lib.rt:93:9
 returns : tie.Need-returns
 unfolding viewAnswer
 returns c = seen-some _ _ _ (c .before .before .view-refusal .ensures) (c .before .if1 .taken)
 
--- src/lib.rt:95:9
 start-of-requires : tie.Need-start-of-requires
 start-of-requires c κs = search needs
 
--- src/lib.rt:96:28
 mask-at-requires : tie.Need-mask-at-requires
 mask-at-requires c κs = search needs
 
--- src/lib.rt:96:23
 dofs-requires : tie.Need-dofs-requires
 dofs-requires c κs = search needs
 
--- src/lib.rt:96:15
 add-end : tie.Need-add-end
 add-end c = omega (arith, view-within (c .before .before .before .before .before .before .before .args .arm) (c .before .before .before .before .before .before .before .args .link) (length (c .before .before .before .before .before .before .before .args .velocities .now)) (length (c .before .before .before .before .before .before .before .args .accelerations .now)) (links-length (c .before .before .before .before .before .before .before .args .arm) (c .before .before .before .before .before .before .before .good .0)) (sym (c .before .before .before .before .view-refusal .ensures) ∙ c .before .before .before .if1 .left), end-at (c .before .before .before .before .before .before .before .args .arm) (c .before .before .before .before .before .before .before .args .link) (c .before .before .start-of .result) (c .dofs .result) (c .before .mask-at .result) (c .before .before .start-of .ensures) (c .dofs .ensures) (c .before .mask-at .ensures))
 
--- src/lib.rt:98:29
 enum-told : tie.Need-enum-told
 enum-told c = search needs
 
--- src/lib.rt:98:29
 mul-result : tie.Need-mul-result
 mul-result c = omega (arith, view-within (c .before .before .before .before .before .before .before .before .before .args .arm) (c .before .before .before .before .before .before .before .before .before .args .link) (length (c .before .before .before .before .before .before .before .before .before .args .velocities .now)) (length (c .before .before .before .before .before .before .before .before .before .args .accelerations .now)) (links-length (c .before .before .before .before .before .before .before .before .before .args .arm) (c .before .before .before .before .before .before .before .before .before .good .0)) (sym (c .before .before .before .before .before .before .view-refusal .ensures) ∙ c .before .before .before .before .before .if1 .left), end-at (c .before .before .before .before .before .before .before .before .before .args .arm) (c .before .before .before .before .before .before .before .before .before .args .link) (c .before .before .before .before .start-of .result) (c .before .before .dofs .result) (c .before .before .before .mask-at .result) (c .before .before .before .before .start-of .ensures) (c .before .before .dofs .ensures) (c .before .before .before .mask-at .ensures))
 
--- src/lib.rt:98:29
 sub-result-2 : tie.Need-sub-result-2
 sub-result-2 c = search needs
 
--- src/lib.rt:98:29
 part-result-start-2 : tie.Need-part-result-start-2
 part-result-start-2 c = search needs
 
--- src/lib.rt:98:29
 part-result-end-2 : tie.Need-part-result-end-2
 part-result-end-2 c = omega (arith, view-within (c .before .before .before .before .before .before .before .before .before .args .arm) (c .before .before .before .before .before .before .before .before .before .args .link) (length (c .before .before .before .before .before .before .before .before .before .args .velocities .now)) (length (c .before .before .before .before .before .before .before .before .before .args .accelerations .now)) (links-length (c .before .before .before .before .before .before .before .before .before .args .arm) (c .before .before .before .before .before .before .before .before .before .good .0)) (sym (c .before .before .before .before .before .before .view-refusal .ensures) ∙ c .before .before .before .before .before .if1 .left), end-at (c .before .before .before .before .before .before .before .before .before .args .arm) (c .before .before .before .before .before .before .before .before .before .args .link) (c .before .before .before .before .start-of .result) (c .before .before .dofs .result) (c .before .before .before .mask-at .result) (c .before .before .before .before .start-of .ensures) (c .before .before .dofs .ensures) (c .before .before .before .mask-at .ensures))
 
--- src/lib.rt:99:32
 enum-told-2 : tie.Need-enum-told-2
 enum-told-2 c = search needs
 
--- src/lib.rt:99:32
 mul-result-2 : tie.Need-mul-result-2
 mul-result-2 c = omega (arith, view-within (c .before .before .before .before .before .before .before .before .before .args .arm) (c .before .before .before .before .before .before .before .before .before .args .link) (length (c .before .before .before .before .before .before .before .before .before .args .velocities .now)) (length (c .before .before .before .before .before .before .before .before .before .args .accelerations .now)) (links-length (c .before .before .before .before .before .before .before .before .before .args .arm) (c .before .before .before .before .before .before .before .before .before .good .0)) (sym (c .before .before .before .before .before .before .view-refusal .ensures) ∙ c .before .before .before .before .before .if1 .left), end-at (c .before .before .before .before .before .before .before .before .before .args .arm) (c .before .before .before .before .before .before .before .before .before .args .link) (c .before .before .before .before .start-of .result) (c .before .before .dofs .result) (c .before .before .before .mask-at .result) (c .before .before .before .before .start-of .ensures) (c .before .before .dofs .ensures) (c .before .before .before .mask-at .ensures))
 
--- src/lib.rt:99:32
 sub-result-3 : tie.Need-sub-result-3
 sub-result-3 c = search needs
 
--- src/lib.rt:99:32
 part-result-start-3 : tie.Need-part-result-start-3
 part-result-start-3 c = search needs
 
--- src/lib.rt:99:32
 part-result-end-3 : tie.Need-part-result-end-3
 part-result-end-3 c = omega (arith, view-within (c .before .before .before .before .before .before .before .before .before .args .arm) (c .before .before .before .before .before .before .before .before .before .args .link) (length (c .before .before .before .before .before .before .before .before .before .args .velocities .now)) (length (c .before .before .before .before .before .before .before .before .before .args .accelerations .now)) (links-length (c .before .before .before .before .before .before .before .before .before .args .arm) (c .before .before .before .before .before .before .before .before .before .good .0)) (sym (c .before .before .before .before .before .before .view-refusal .ensures) ∙ c .before .before .before .before .before .if1 .left), end-at (c .before .before .before .before .before .before .before .before .before .args .arm) (c .before .before .before .before .before .before .before .before .before .args .link) (c .before .before .before .before .start-of .result) (c .before .before .dofs .result) (c .before .before .before .mask-at .result) (c .before .before .before .before .start-of .ensures) (c .before .before .dofs .ensures) (c .before .before .before .mask-at .ensures))
 
--- src/lib.rt:80:1
 returns-2 : tie.Need-returns-2
-returns-2 c = 
+returns-2 c =
     let s = c .before .before .before .before .before .before .before .before .before .before .args in
     view-done (c .before .before .before .before .before .before .before .view-refusal .result) (s .arm) (s .role) (s .link) (s .velocities .now) (s .accelerations .now) (s .velocities .now) (c .before .before .before .before .before .start-of .result) (c .before .before .before .dofs .result) (c .before .before .before .before .mask-at .result)
     (c .before .before .before .before .before .before .before .view-refusal .ensures) (c .before .before .before .before .before .before .if1 .left) (c .before .before .before .before .before .start-of .ensures) (c .before .before .before .dofs .ensures) (c .before .before .before .before .mask-at .ensures) (ap (λ (r : Role). rowOf r (s .velocities .now) (s .accelerations .now)) (sym (c .before .enum-told .given .1)))
 
--- src/lib.rt:80:1
 returns-3 : tie.Need-returns-3
-returns-3 c = 
+returns-3 c =
     let s = c .before .before .before .before .before .before .before .before .before .before .args in
     view-done (c .before .before .before .before .before .before .before .view-refusal .result) (s .arm) (s .role) (s .link) (s .velocities .now) (s .accelerations .now) (s .accelerations .now) (c .before .before .before .before .before .start-of .result) (c .before .before .before .dofs .result) (c .before .before .before .before .mask-at .result)
     (c .before .before .before .before .before .before .before .view-refusal .ensures) (c .before .before .before .before .before .before .if1 .left) (c .before .before .before .before .before .start-of .ensures) (c .before .before .before .dofs .ensures) (c .before .before .before .before .mask-at .ensures) (ap (λ (r : Role). rowOf r (s .velocities .now) (s .accelerations .now)) (sym (c .before .enum-told2 .given .1)))

@@ -11,13 +11,13 @@ use Rattle.kinematics.proofs.work_out.Statement.{statement}
 use Rattle.kinematics.proofs.work_out.Tie as tie
 
 abbrev Inv-loop : tie.InvT-loop
-Inv-loop n tables work₀ marks links₀ fine₀ start₀ j₀ work links fine start j = Held links₀ n (marked marks) tables work₀ j start work links fine
+Inv-loop n tables work₀ given marks links₀ fine₀ start₀ j₀ work links fine start j = Held given n (marked marks) tables work₀ j start work links fine
 
 abbrev μ-loop : tie.MeasureT-loop
-μ-loop n tables work₀ marks links₀ fine₀ start₀ j₀ work links fine start j = n - j
+μ-loop n tables work₀ given marks links₀ fine₀ start₀ j₀ work links fine start j = n - j
 
 loop-holds : tie.Need-loop-holds Inv-loop μ-loop
-loop-holds c = held-none (c .before .before .args .given) (c .before .before .args .n) (marked (c .before .before .args .t3)) (c .before .before .args .tables .now) (c .before .before .args .work .now) (c .before .before .good .0 .1 .0 .1) (c .before .before .pre .1 .1)
+loop-holds c = held-none (c .before .before .args .t1) (c .before .before .args .n) (marked (c .before .before .args .t3)) (c .before .before .args .tables .now) (c .before .before .args .work .now) (c .before .before .good .0 .1 .0 .1) (c .before .before .pre .1 .1)
 
 mul-l : tie.Need-mul-l Inv-loop μ-loop
 mul-l c = search needs
@@ -65,7 +65,7 @@ part-refresh-link-end : tie.Need-part-refresh-link-end Inv-loop μ-loop
 part-refresh-link-end c = search needs
 
 refresh-link-requires : tie.Need-refresh-link-requires Inv-loop μ-loop
-refresh-link-requires c κs = (search needs, start-room (c .before .before .before .before .before .before .before .before .before .before .before .before .before .before .args .given) (c .before .before .before .before .before .before .before .before .before .before .before .loop .j) (c .before .before .before .before .before .before .before .before .before .before .before .loop .start) (c .before .before .before .before .before .before .before .before .before .before .before .before .before .before .args .n) (c .before .before .before .before .before .before .before .before .before .before .loop-test .taken) (c .before .before .before .before .before .before .before .before .before .before .before .before .before .before .pre .0) (c .before .before .before .before .before .before .before .before .before .before .before .loop .inv .begins))
+refresh-link-requires c κs = (search needs, start-room (c .before .before .before .before .before .before .before .before .before .before .before .before .before .before .args .t1) (c .before .before .before .before .before .before .before .before .before .before .before .loop .j) (c .before .before .before .before .before .before .before .before .before .before .before .loop .start) (c .before .before .before .before .before .before .before .before .before .before .before .before .before .before .args .n) (c .before .before .before .before .before .before .before .before .before .before .loop-test .taken) (c .before .before .before .before .before .before .before .before .before .before .before .before .before .before .pre .0) (c .before .before .before .before .before .before .before .before .before .before .before .loop .inv .begins))
 
 mul-links : tie.Need-mul-links Inv-loop μ-loop
 mul-links c = omega (arith, c .before .before .before .before .before .before .before .before .before .before .before .before .before .before .loop-test .taken, c .before .before .before .before .before .before .before .before .before .before .before .before .before .before .before .before .before .before .pre .0)
@@ -77,7 +77,7 @@ dofs-requires : tie.Need-dofs-requires Inv-loop μ-loop
 dofs-requires c κs = search needs
 
 add-start : tie.Need-add-start Inv-loop μ-loop
-add-start c = omega (arith, start-room (c .before .before .before .before .before .before .before .args .given) (c .before .before .before .before .loop .j) (c .before .before .before .before .loop .start) (c .before .before .before .before .before .before .before .args .n) (c .before .before .before .loop-test .taken) (c .before .before .before .before .before .before .before .pre .0) (c .before .before .before .before .loop .inv .begins), dofs-le (getD (c .before .before .before .before .loop .links) (c .before .before .before .before .loop .j) noLink .joint .locked), c .dofs .ensures)
+add-start c = omega (arith, start-room (c .before .before .before .before .before .before .before .args .t1) (c .before .before .before .before .loop .j) (c .before .before .before .before .loop .start) (c .before .before .before .before .before .before .before .args .n) (c .before .before .before .loop-test .taken) (c .before .before .before .before .before .before .before .pre .0) (c .before .before .before .before .loop .inv .begins), dofs-le (getD (c .before .before .before .before .before .before .before .args .t1) (c .before .before .before .before .loop .j) noLink .joint .locked), c .dofs .ensures)
 
 add-j : tie.Need-add-j Inv-loop μ-loop
 add-j c = search needs
@@ -87,7 +87,7 @@ loop-less c = search needs
 
 loop-again : tie.Need-loop-again Inv-loop μ-loop
 loop-again c =
-    let ls = c .before .before .before .before .before .before .before .args .given in
+    let ls = c .before .before .before .before .before .before .before .args .t1 in
     let b = marked (c .before .before .before .before .before .before .before .args .t3) in
     let t = c .before .before .before .before .before .before .before .args .tables .now in
     let o = c .before .before .before .before .before .before .before .args .work .now in
@@ -102,7 +102,7 @@ same-length : tie.Need-same-length Inv-loop μ-loop
 same-length c = search needs
 
 returns : tie.Need-returns Inv-loop μ-loop
-returns c = held-all (c .before .before .before .before .args .given) (c .before .before .before .before .args .n) (c .before .before .before .before .pre .0) (c .before .before .before .before .good .0 .1 .0 .1) (marked (c .before .before .before .before .args .t3)) (c .before .before .before .before .args .tables .now) (c .before .before .before .before .args .work .now) (c .before .before .before .before .pre .1 .0) (c .before .loop .j) (c .before .loop .start) (c .before .loop .work) (c .before .loop .links) (c .before .loop .fine) (c .before .loop .inv) (omega arith)
+returns c = held-all (c .before .before .before .before .args .t1) (c .before .before .before .before .args .n) (c .before .before .before .before .pre .0) (c .before .before .before .before .good .0 .1 .0 .1) (marked (c .before .before .before .before .args .t3)) (c .before .before .before .before .args .tables .now) (c .before .before .before .before .args .work .now) (c .before .before .before .before .pre .1 .0) (c .before .loop .j) (c .before .loop .start) (c .before .loop .work) (c .before .loop .links) (c .before .loop .fine) (c .before .loop .inv) (omega arith)
 
 pub work-out-spec : {M : Type 1} → statement M
 work-out-spec =

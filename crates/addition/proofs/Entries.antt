@@ -1,0 +1,92 @@
+-- What is set of an arm for a new link: its row entries and its mark. Assumes nothing.
+use Prim.Native.Nat.{ℕ, zero, suc, _+_, _-_, _≤_, _<_}
+use mathlib.Core.Path.{_≡_, refl, sym, ap, ap₂, _∙_}
+use mathlib.Core.Bool.{Bool, true, false}
+use mathlib.Core.List.{List, [], _∷_, _++_, map}
+use native.Mathlib.Omega.{arith}
+use native.Mathlib.Nat.{sub-zero}
+use borrow.Author.Tests.{le-leb, eqb-true, eqb-false}
+use lib.Dec.{eqb, leb}
+use lib.ListN.{length, getD, set, take, drop, replicate, length-replicate, length-map, getD-replicate, List·getD-eq-default, length-set}
+use lib.Seq.{getD-set-same, getD-set-other, length-take-le}
+use lib.Ieee.{Float}
+use Rattle.limits.specs.Limits.{linkLimit, dofLimit}
+use Rattle.refusal.specs.Refusal.{unlessOf, lowerOf}
+use Rattle.floats.specs.Floats.{overlaid}
+use Rattle.masks.specs.declared.Count.{Count}
+use Rattle.masks.specs.Masks.{isMask, dofsOf, dampingRow}
+use Rattle.masks.specs.Answers.{Outcome, out, laid, filled, dampingRefusal, dampingAnswer}
+use Rattle.masks.proofs.Laws.{dofs-le}
+use Rattle.masks.proofs.Totals.{total-le}
+use Rattle.arm.specs.declared.Row.{Row}
+use Rattle.arm.specs.declared.RowName.the-variants.{Damping}
+use Rattle.arm.specs.declared.Arm.{Arm}
+use Rattle.arm.specs.Arm.{masksOf, dofCountOf, rowNumber}
+use Rattle.arm.specs.Edits.{modify}
+use Rattle.arm.proofs.Lists.{filled-all}
+use Rattle.arm.proofs.Live.{masks-live}
+use Rattle.arm.proofs.Edits.{set-modify}
+use Rattle.kinematics.specs.State.{marked}
+use Rattle.kinematics.proofs.Blocks.{copied-in}
+use Rattle.addition.specs.NewLink.{zeros, entriesSet, rowsWith}
+use Rattle.addition.specs.Addition.{onlyMark}
+
+-- ---- the default damping, at the front of three places
+
+module _ (mask : ℕ) (h : mask ≤ 7) where
+  none-refused : dampingRefusal mask 3 ≡ 0
+  unfolding dampingRefusal lowerOf
+  none-refused = rw (le-leb (dofsOf mask) 3 (dofs-le mask), le-leb mask 7 h)
+
+  pub damped : (r : Count) (m : List Float) → out r m ≡ dampingAnswer mask zeros → m ≡ laid (dampingRow mask) zeros
+  unfolding dampingAnswer filled
+  damped r m e =
+      ap (λ (o : Outcome Float). o .memory) e
+      ∙ ap (λ (k : ℕ). filled k (dofsOf mask) (dampingRow mask) zeros .memory) none-refused
+
+-- ---- a row's entries
+
+pub entries-set : (row : Row) (start n : ℕ) (values z : List Float) → start + n ≤ length (row .entries) → n ≤ length values
+    → z ≡ overlaid (take ((start + n) - start) (drop start (row .entries))) (take (n - 0) values)
+    → _≡_ {A = Row} (record { entries = take start (row .entries) ++ (z ++ drop ((start + n) - start) (drop start (row .entries))) }) (entriesSet start n values row)
+unfolding entriesSet
+entries-set row start n values z h l e =
+    ap (λ (s : List Float). record { entries = s })
+    (copied-in start n (row .entries) (take n values) z h (length-take-le n values l) (e ∙ ap (λ (k : ℕ). overlaid (take ((start + n) - start) (drop start (row .entries))) (take k values)) (sub-zero n)))
+
+-- ---- the rows
+
+-- every row has its zeros, and the damping row its own
+pub rows-with : (a : Arm) (mask start n k i : ℕ) (rows : List Row) (values : List Float) (d v : Row) → length (a .rows) ≡ 5 → length rows ≡ 5 → start ≡ dofCountOf a → n ≡ dofsOf mask
+    → k ≡ rowNumber Damping → 5 ≤ i → take i rows ≡ take i (map (entriesSet start n zeros) (a .rows)) → values ≡ laid (dampingRow mask) zeros
+    → v ≡ entriesSet start n values (getD rows k d) → set rows k v ≡ rowsWith a mask
+unfolding rowsWith
+rows-with a mask start n k i rows values d v w l es en ek h p ev q =
+    set-modify (entriesSet start n values) rows k d v q
+    ∙ ap (modify (entriesSet start n values) k) (filled-all (map (entriesSet start n zeros) (a .rows)) rows i (omega arith) (omega (arith, length-map (a .rows) (entriesSet start n zeros))) p)
+    ∙ (λ r. modify (entriesSet (es r) (en r) (ev r)) (ek r) (map (entriesSet (es r) (en r) zeros) (a .rows)))
+
+-- there is room for three entries more
+pub room : (a : Arm) → length (a .links) ≡ linkLimit → a .«link_count» < linkLimit → dofCountOf a + 3 ≤ dofLimit
+unfolding dofCountOf
+room a w h = omega (arith, total-le (masksOf a), masks-live a w)
+
+-- ---- the mark
+
+none-marked : (n j : ℕ) → getD (replicate n false) j false ≡ false
+none-marked zero j = refl
+none-marked (suc n) zero = refl
+none-marked (suc n) (suc j) = none-marked n j
+
+mark-at : (link : ℕ) → link < linkLimit → (j : ℕ) → marked (set (replicate linkLimit false) link true) j ≡ onlyMark link j
+mark-at link h j = go (eqb j link) refl
+  where
+    go : (b : Bool) → eqb j link ≡ b → marked (set (replicate linkLimit false) link true) j ≡ b
+    go true e =
+        let q = eqb-true j link e in
+        ap (marked (set (replicate linkLimit false) link true)) q
+        ∙ getD-set-same (replicate linkLimit false) link true false (omega (arith, length-replicate linkLimit false))
+    go false e = getD-set-other (replicate linkLimit false) link j true false (eqb-false j link e) ∙ none-marked linkLimit j
+
+pub marked-only : (link : ℕ) → link < linkLimit → marked (set (replicate linkLimit false) link true) ≡ onlyMark link
+marked-only link h = λ i j. mark-at link h j i

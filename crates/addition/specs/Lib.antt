@@ -1,0 +1,2 @@
+pub mod NewLink
+pub mod Addition

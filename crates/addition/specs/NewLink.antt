@@ -1,0 +1,76 @@
+-- A new link, its row entries, and the arm with it: damping by default, other rows, coordinates and springs zero, joint rotation identity.
+use Prim.Native.Nat.{ℕ, _+_, _≤_, _<_}
+use mathlib.Core.Path.{_≡_}
+use mathlib.Core.List.{List, map}
+use lib.ListN.{set, take, replicate}
+use lib.Ieee.{Float}
+use Rattle.limits.specs.Limits.{linkLimit}
+use Rattle.floats.specs.Floats.{zero32}
+use Rattle.masks.specs.Masks.{dofsOf, dampingRow}
+use Rattle.masks.specs.Answers.{laid}
+use Rattle.planar.specs.declared.Point.{Point}
+use Rattle.planar.specs.Poses.{rotationOf, identityPose}
+use Rattle.arm.specs.declared.Link.{Link}
+use Rattle.arm.specs.declared.Row.{Row}
+use Rattle.arm.specs.declared.RowName.the-variants.{Damping}
+use Rattle.arm.specs.declared.Arm.{Arm}
+use Rattle.arm.specs.Arm.{dofCountOf, rowNumber}
+use Rattle.arm.specs.Edits.{modify}
+use Rattle.kinematics.specs.Blocks.{withPart}
+use Rattle.addition.specs.declared.NewLink.{NewLink}
+
+-- its numbers are small
+pub record Small (new : NewLink) : Type 0 where
+  pub parent : new .parent ≤ linkLimit
+  pub locked : new .locked ≤ 7
+  pub limit : new .limit ≤ 7
+  pub motor : new .motor ≤ 7
+
+abbrev pub zeros : List Float
+zeros = replicate 3 zero32
+
+abbrev pub origin : Point
+origin = record { x = zero32; y = zero32 }
+
+-- the link; its pose and shifts are yet to be worked out
+unfoldable pub linkOf : NewLink → Link
+linkOf new = record {
+  tag = new .tag;
+  parent = new .parent;
+  joint = record {
+    locked = new .locked;
+    limit = new .limit;
+    motor = new .motor;
+    frame1 = new .frame1;
+    frame2 = new .frame2;
+    coordinates = zeros;
+    rotation = rotationOf identityPose;
+    stiffness = zeros;
+    rest = zeros;
+  };
+  centre = new .centre;
+  world = identityPose;
+  shift02 = origin;
+  shift23 = origin;
+}
+
+-- the first n of the values stand in the row from `start` on
+unfoldable pub entriesSet : ℕ → ℕ → List Float → Row → Row
+entriesSet start n values row = record { entries = withPart start n (take n values) (row .entries) }
+
+-- behind the arm's own entries, one for each of the mask's DoFs: +0 in each row, then the default damping in its row
+unfoldable pub rowsWith : Arm → ℕ → List Row
+rowsWith a mask =
+    let start = dofCountOf a in
+    let n = dofsOf mask in
+    modify (entriesSet start n (laid (dampingRow mask) zeros)) (rowNumber Damping) (map (entriesSet start n zeros) (a .rows))
+
+-- the arm with the link behind its last, and nothing worked out
+unfoldable pub addedInputs : Arm → NewLink → Arm
+addedInputs a new = record {
+  «link_count» = a .«link_count» + 1;
+  «coupling_count» = a .«coupling_count»;
+  links = set (a .links) (a .«link_count») (linkOf new);
+  couplings = a .couplings;
+  rows = rowsWith a (new .locked);
+}

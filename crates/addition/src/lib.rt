@@ -1,0 +1,242 @@
+// The addition of a link at the end of the list: it starts with zero coordinates and springs, takes its row entries, and is worked out from what is kept
+// of its parent.
+ghost use mathlib.Core.Path.{_≡_};
+ghost use Prim.Native.Nat.{_+_, _≤_, _<_};
+ghost use Rattle.limits.specs.Limits.{linkLimit, dofLimit};
+ghost use Rattle.masks.specs.Masks.{dampingRow};
+ghost use Rattle.masks.specs.Answers.{laid};
+ghost use Rattle.arm.specs.Arm.{tagsOf, dofCountOf};
+ghost use Rattle.arm.specs.HandedIn.{isNew};
+ghost use Rattle.kinematics.specs.State.{marked};
+ghost use Rattle.working.specs.Outcome.{out};
+ghost use Rattle.addition.specs.NewLink.{Small, linkOf, entriesSet, zeros, rowsWith, addedInputs};
+ghost use Rattle.addition.specs.Addition.{masksFit, floatsFinite, turnsFit, addRefusal, onlyMark, linkAdded};
+use arm::Arm;
+use arm::Edited;
+use arm::Link;
+use arm::Row;
+use arm::RowName;
+use arm::arm_refusal;
+use arm::dof_count;
+use arm::live_links;
+use arm::row_number;
+use floats::copy;
+use limits::LINKS;
+use masks::default_damping;
+use masks::dofs;
+use masks::is_mask;
+use multibody_joint::Joint;
+use planar::Point;
+use planar::Pose;
+use planar::identity;
+use planar::is_finite_point;
+use planar::is_finite_pose;
+use planar::is_turn;
+use planar::rotation_of;
+use refusal::lower;
+use refusal::unless;
+use settled::is_finite_above;
+use topology::parent_fits;
+use working::tables_fit;
+use working::work_marked;
+
+// What the caller gives of a link. Numbers are any, so that none is cut.
+#[repr(C)]
+pub struct NewLink {
+    pub tag: u32,
+    pub parent: u32,
+    pub locked: u32,
+    pub limit: u32,
+    pub motor: u32,
+    pub frame1: Pose,
+    pub frame2: Pose,
+    pub centre: Point,
+}
+
+// ---- What it refuses
+
+// Is the tag none of the arm's?
+fn is_new_tag(arm: Arm, tag: u32) -> bool
+    ensures { λ r. ⌜ r ≡ isNew tag (tagsOf arm) ⌝ }
+{
+    let n = live_links(arm.link_count);
+    let mut new = true;
+    let mut i = 0;
+    while i < n {
+        let l = arm.links[i];
+        new = new & (l.tag != tag);
+        i += 1;
+    }
+    new
+}
+
+// A root's locked mask is 7 or 0.
+fn masks_fit(link: usize, new: NewLink) -> bool
+    ensures { λ r. ⌜ r ≡ masksFit link new ⌝ }
+{
+    let masks = is_mask(new.locked) & is_mask(new.limit) & is_mask(new.motor);
+    if link == 0 {
+        return masks & ((new.locked == 7) | (new.locked == 0));
+    }
+    masks
+}
+
+fn is_finite_new(new: NewLink) -> bool
+    ensures { λ r. ⌜ r ≡ floatsFinite new ⌝ }
+{
+    is_finite_pose(new.frame1) & is_finite_pose(new.frame2) & is_finite_point(new.centre)
+}
+
+fn turns_fit(new: NewLink) -> bool
+    ensures { λ r. ⌜ r ≡ turnsFit new ⌝ }
+{
+    is_turn(rotation_of(new.frame1)) & is_turn(rotation_of(new.frame2))
+}
+
+fn add_refusal(arm: Arm, tables: &[f32], new: NewLink) -> u8
+    ensures { λ r. ⌜ r ≡ addRefusal arm (now (tables .entry)) new ⌝ }
+{
+    let n = arm.link_count;
+    let above = is_finite_above(n, new.parent, tables);
+    lower(
+        unless(tables_fit(tables), 1),
+        lower(
+            unless(n < LINKS, 2),
+            lower(
+                unless(is_new_tag(arm, new.tag), 3),
+                lower(
+                    unless(parent_fits(n, new.parent as usize), 4),
+                    lower(
+                        unless(masks_fit(n, new), 5),
+                        lower(
+                            unless(is_finite_new(new) & above, 7),
+                            lower(unless(turns_fit(new), 8), arm_refusal(arm)),
+                        ),
+                    ),
+                ),
+            ),
+        ),
+    )
+}
+
+// ---- The new link
+
+// Coordinates and springs are zero, the joint rotation is the identity. Its pose and shifts are yet to be worked out.
+fn link_of(new: NewLink) -> Link
+    requires { ⌜ Small new ⌝ }
+    ensures { λ l. ⌜ l ≡ linkOf new ⌝ }
+{
+    let none = [0.0f32; 3];
+    let frame1 = new.frame1;
+    let frame2 = new.frame2;
+    let centre = new.centre;
+    let joint = Joint {
+        locked: new.locked as u8,
+        limit: new.limit as u8,
+        motor: new.motor as u8,
+        frame1,
+        frame2,
+        coordinates: none,
+        rotation: rotation_of(identity()),
+        stiffness: none,
+        rest: none,
+    };
+    let origin = Point { x: 0.0, y: 0.0 };
+    Link {
+        tag: new.tag,
+        parent: new.parent as u8,
+        joint,
+        centre,
+        world: identity(),
+        shift02: origin,
+        shift23: origin,
+    }
+}
+
+// ---- Its row entries
+
+// The default damping of a mask's degrees of freedom, at the front.
+fn damping_of(mask: u8) -> [f32; 3]
+    requires { ⌜ mask ≤ 7 ⌝ }
+    ensures { λ r. ⌜ r ≡ laid (dampingRow mask) zeros ⌝ }
+{
+    let mut values = [0.0f32; 3];
+    default_damping(mask as u32, &mut values);
+    values
+}
+
+// The first n of the values stand in the row from `start` on.
+fn with_entries(row: Row, start: usize, n: usize, values: [f32; 3]) -> Row
+    requires { ⌜ (n ≤ 3) × (start + 3 ≤ dofLimit) ⌝ }
+    ensures { λ r. ⌜ r ≡ entriesSet start n values row ⌝ }
+{
+    let mut entries = row.entries;
+    let end = start + n;
+    copy(&mut entries[start..end], &values[0..n]);
+    Row { entries }
+}
+
+// Damping by default, +0 in the other rows.
+fn with_new_entries(arm: Arm, mask: u8) -> [Row; 5]
+    requires { ⌜ (mask ≤ 7) × (dofCountOf arm + 3 ≤ dofLimit) ⌝ }
+    ensures { λ r. ⌜ r ≡ rowsWith arm mask ⌝ }
+{
+    let start = dof_count(arm);
+    let n = dofs(mask);
+    let none = [0.0f32; 3];
+    let mut rows = arm.rows;
+    let mut i = 0;
+    while i < 5 {
+        let row = arm.rows[i];
+        rows[i] = with_entries(row, start, n, none);
+        i += 1;
+    }
+    let damping = row_number(RowName::Damping);
+    let row = rows[damping];
+    rows[damping] = with_entries(row, start, n, damping_of(mask));
+    rows
+}
+
+// The arm with the link behind its last, and nothing worked out.
+fn with_link(arm: Arm, new: NewLink) -> Arm
+    requires { ⌜ (arm .«link_count» < linkLimit) × Small new ⌝ }
+    ensures { λ r. ⌜ r ≡ addedInputs arm new ⌝ }
+{
+    let n = arm.link_count;
+    let link = link_of(new);
+    let rows = with_new_entries(arm, new.locked as u8);
+    let couplings = arm.couplings;
+    let mut links = arm.links;
+    links[n] = link;
+    Arm {
+        link_count: n + 1,
+        coupling_count: arm.coupling_count,
+        links,
+        couplings,
+        rows,
+    }
+}
+
+// ---- The addition
+
+fn mark_of(link: usize) -> [bool; LINKS]
+    requires { ⌜ link < linkLimit ⌝ }
+    ensures { λ r. ⌜ marked r ≡ onlyMark link ⌝ }
+{
+    let mut marks = [false; LINKS];
+    marks[link] = true;
+    marks
+}
+
+// A link is added behind the last, and it alone is worked out; nothing else is touched.
+pub fn add_link(arm: Arm, tables: &mut [f32], new: NewLink) -> Edited
+    ensures { λ e. ⌜ out e (now (tables .exit)) ≡ linkAdded arm (now (tables .entry)) new ⌝ }
+{
+    let refusal = add_refusal(arm, tables, new);
+    if refusal != 0 {
+        return Edited { refusal, arm };
+    }
+    let marks = mark_of(arm.link_count);
+    let added = with_link(arm, new);
+    work_marked(arm, added, marks, tables)
+}

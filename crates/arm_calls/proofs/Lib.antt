@@ -1,4 +1,0 @@
-pub mod Accepted
-pub mod Answers
-pub mod Agreeing
-pub mod Theorems

@@ -1,6 +1,0 @@
-pub mod Refusals
-pub mod Rows
-pub mod Links
-pub mod Couplings
-pub mod Numbers
-pub mod Words

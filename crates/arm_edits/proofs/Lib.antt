@@ -1,0 +1,4 @@
+pub mod Accepted
+pub mod Stores
+pub mod Agreeing
+pub mod Theorems

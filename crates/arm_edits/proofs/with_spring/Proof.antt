@@ -1,0 +1,15 @@
+-- `with_spring` changes the joint only. Assumes nothing.
+use borrow.Author.Needs.{needs}
+use Rattle.arm_edits.specs.Springs.{linkSpringSet}
+use Rattle.arm_edits.proofs.with_spring.Statement.{statement}
+use Rattle.arm_edits.proofs.with_spring.Tie as tie
+
+set-spring-requires : tie.Need-set-spring-requires
+set-spring-requires c κs = search needs
+
+returns : tie.Need-returns
+unfolding linkSpringSet
+returns c = cc
+
+pub with-spring-spec : {M : Type 1} → statement M
+with-spring-spec = tie.close (tie.spec set-spring-requires returns)

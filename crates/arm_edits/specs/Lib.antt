@@ -1,0 +1,4 @@
+pub mod Rows
+pub mod Springs
+pub mod Couplings
+pub mod Words

@@ -1,0 +1,72 @@
+-- What a move reads and sets, case by case as the code does. Assumes nothing.
+use Prim.Native.Nat.{ℕ, zero, suc, _≤_, _<_}
+use mathlib.Core.Path.{_≡_, refl, sym, ap, _∙_}
+use mathlib.Core.Bool.{Bool, true, false}
+use mathlib.Core.List.{List, [], _∷_}
+use native.Mathlib.Omega.{arith}
+use borrow.Author.Tests.{lt-ltb, le-ltb, eq-eqb, ne-eqb}
+use lib.ListN.{length, getD, set, take, length-map, List·getD-eq-default}
+use lib.Seq.{getD-take, length-take-le}
+use lib.Ieee.{Float}
+use Rattle.limits.specs.Limits.{linkLimit}
+use Rattle.planar.specs.declared.Rotation.{Rotation}
+use Rattle.planar.specs.Rotation.{rotationAt}
+use Rattle.multibody_joint.specs.declared.Joint.{Joint}
+use Rattle.multibody_joint.specs.Joint.{withMotion}
+use Rattle.arm.specs.declared.Link.{Link}
+use Rattle.arm.specs.declared.Arm.{Arm}
+use Rattle.arm.specs.Arm.{liveLinks, linksOf, parentsOf}
+use Rattle.arm.specs.Arm as arm-words
+use Rattle.arm.specs.Edits.{modify, withLinks}
+use Rattle.arm.proofs.Lists.{map-at}
+use Rattle.arm.proofs.Live.{links-live}
+use Rattle.arm.proofs.Edits.{set-modify}
+use Rattle.topology.specs.Parents.{parentOf}
+use Rattle.one_link_move.specs.declared.Change.{Change}
+use Rattle.one_link_move.specs.Change.{coordinateSet, changed, movedInputs}
+
+-- ---- the parent of a link that counts, and of one that does not
+
+module _ (a : Arm) (whole : length (a .links) ≡ linkLimit) (link : ℕ) where
+  pub parent-there : (d : Link) → link < liveLinks a → getD (a .links) link d .parent ≡ parentOf (parentsOf a) link
+  unfolding parentsOf linksOf
+  parent-there d h =
+      sym
+      (map-at arm-words.parentOf (take (liveLinks a) (a .links)) link d 0 (omega (arith, length-take-le (liveLinks a) (a .links) (omega arith)))
+      ∙ ap arm-words.parentOf (getD-take (liveLinks a) (a .links) link d h))
+
+  pub parent-past : liveLinks a ≤ link → 0 ≡ parentOf (parentsOf a) link
+  unfolding parentsOf
+  parent-past h = sym (List·getD-eq-default (parentsOf a) 0 (omega (arith, length-map (linksOf a) arm-words.parentOf, links-live a whole)))
+
+-- ---- a coordinate
+
+module _ (j : Joint) (axis : ℕ) (value : Float) where
+  pub no-axis : 2 < axis → j ≡ coordinateSet axis value j
+  unfolding coordinateSet
+  no-axis h = rw (lt-ltb 2 axis h)
+
+  pub angle : (r : Rotation) → axis ≤ 2 → axis ≡ 2 → r ≡ rotationAt value → withMotion j (set (j .coordinates) axis value) r ≡ coordinateSet axis value j
+  unfolding coordinateSet
+  angle r h e q = rw (le-ltb 2 axis h, eq-eqb axis 2 e, q)
+
+  pub straight : axis ≤ 2 → (axis ≡ 2 → ⊥) → withMotion j (set (j .coordinates) axis value) (j .rotation) ≡ coordinateSet axis value j
+  unfolding coordinateSet
+  straight h e = rw (le-ltb 2 axis h, ne-eqb axis 2 e)
+
+-- ---- the arm
+
+modify-past : {A : Type 0} (f : A → A) (i : ℕ) (xs : List A) → length xs ≤ i → xs ≡ modify f i xs
+unfolding modify
+modify-past f i [] h = refl
+modify-past f zero (x ∷ xs) h = absurd (omega arith)
+modify-past {A = A} f (suc i) (x ∷ xs) h = ap (λ (l : List A). x ∷ l) (modify-past f i xs (omega arith))
+
+module _ (a : Arm) (link : ℕ) (change : Change) where
+  pub moved-past : length (a .links) ≤ link → a ≡ movedInputs a link change
+  unfolding movedInputs
+  moved-past h = ap (withLinks a) (modify-past (changed change) link (a .links) h)
+
+  pub moved-there : (d l : Link) → l ≡ changed change (getD (a .links) link d) → withLinks a (set (a .links) link l) ≡ movedInputs a link change
+  unfolding movedInputs
+  moved-there d l e = ap (withLinks a) (set-modify (changed change) (a .links) link d l e)

@@ -1,0 +1,147 @@
+use Prim.Native.Nat.{ℕ}
+use mathlib.Core.Path.{_≡_, refl, ap, ap₂, _∙_}
+use mathlib.Core.Bool.{_&&_}
+use Rattle.arm.specs.Arm.{maskAt}
+use Rattle.settled.specs.Above.{aboveFinite}
+use Rattle.one_link_move.specs.declared.ChangeTests.{ChangeTests}
+use Rattle.settled.proofs.Lowest.{lowered, tested}
+use Rattle.one_link_move.specs.Move.{testsOf, moveRefusal}
+use borrow.Author.Needs.{needs}
+use Rattle.one_link_move.proofs.move_refusal.Statement.{statement}
+use Rattle.one_link_move.proofs.move_refusal.Tie as tie
+use Rattle.one_link_move.proofs.move_refusal.Reads as reads
+use Rattle.one_link_move.proofs.move_refusal.Lts as lts
+use Rattle.arm.proofs.arm_refusal.Reads as arm-refusal-reads
+use Rattle.arm.proofs.mask_at.Reads as mask-at-reads
+use Rattle.one_link_move.proofs.change_tests.Reads as change-tests-reads
+use Rattle.one_link_move.proofs.parent_at.Reads as parent-at-reads
+use Rattle.refusal.proofs.lower.Reads as lower-reads
+use Rattle.refusal.proofs.unless.Reads as unless-reads
+use Rattle.settled.proofs.is_finite_above.Reads as is-finite-above-reads
+use Rattle.working.proofs.tables_fit.Reads as tables-fit-reads
+
+-- src/lib.rt:107:30
+mask-at-requires : tie.Need-mask-at-requires
+mask-at-requires c κs = search needs
+
+-- src/lib.rt:107:9
+change-tests-requires : tie.Need-change-tests-requires
+change-tests-requires c κs = search needs
+
+-- src/lib.rt:108:37
+parent-at-requires : tie.Need-parent-at-requires
+parent-at-requires c κs = search needs
+
+-- src/lib.rt:108:37
+cast-is-finite-above : tie.Need-cast-is-finite-above
+cast-is-finite-above c = search needs
+
+-- src/lib.rt:108:9
+is-finite-above-requires : tie.Need-is-finite-above-requires
+is-finite-above-requires c κs = search needs
+
+-- src/lib.rt:110:16
+tables-fit-requires : tie.Need-tables-fit-requires
+tables-fit-requires c κs = search needs
+
+-- src/lib.rt:110:9
+unless-requires : tie.Need-unless-requires
+unless-requires c κs = search needs
+
+-- src/lib.rt:112:13
+unless-requires-2 : tie.Need-unless-requires-2
+unless-requires-2 c κs = search needs
+
+-- src/lib.rt:114:17
+unless-requires-3 : tie.Need-unless-requires-3
+unless-requires-3 c κs = search needs
+
+-- src/lib.rt:116:21
+unless-requires-4 : tie.Need-unless-requires-4
+unless-requires-4 c κs = search needs
+
+-- src/lib.rt:118:25
+unless-requires-5 : tie.Need-unless-requires-5
+unless-requires-5 c κs = search needs
+
+-- src/lib.rt:120:29
+unless-requires-6 : tie.Need-unless-requires-6
+unless-requires-6 c κs = search needs
+
+-- src/lib.rt:121:35
+unless-requires-7 : tie.Need-unless-requires-7
+unless-requires-7 c κs = search needs
+
+-- src/lib.rt:121:59
+arm-refusal-requires : tie.Need-arm-refusal-requires
+arm-refusal-requires c κs = search needs
+
+-- src/lib.rt:121:29
+lower-requires : tie.Need-lower-requires
+lower-requires c κs = search needs
+
+-- src/lib.rt:119:25
+lower-requires-2 : tie.Need-lower-requires-2
+lower-requires-2 c κs = search needs
+
+-- src/lib.rt:117:21
+lower-requires-3 : tie.Need-lower-requires-3
+lower-requires-3 c κs = search needs
+
+-- src/lib.rt:115:17
+lower-requires-4 : tie.Need-lower-requires-4
+lower-requires-4 c κs = search needs
+
+-- src/lib.rt:113:13
+lower-requires-5 : tie.Need-lower-requires-5
+lower-requires-5 c κs = search needs
+
+-- src/lib.rt:111:9
+lower-requires-6 : tie.Need-lower-requires-6
+lower-requires-6 c κs = search needs
+
+-- src/lib.rt:109:5
+lower-requires-7 : tie.Need-lower-requires-7
+lower-requires-7 c κs = search needs
+
+-- src/lib.rt:103:1
+returns : tie.Need-returns
+unfolding moveRefusal testsOf
+returns c =
+    let link = c .before .before .before .before .before .before .before .before .before .before .before .before .before .before .before .before .before .before .before .before .before .before .before .args .link in
+    let t = c .before .before .before .before .before .before .before .before .before .before .before .before .before .before .before .before .before .before .before .before .change-tests .ensures ∙ ap (λ (m : ℕ). testsOf m (c .before .before .before .before .before .before .before .before .before .before .before .before .before .before .before .before .before .before .before .before .before .before .before .args .change)) (c .before .before .before .before .before .before .before .before .before .before .before .before .before .before .before .before .before .before .before .before .before .mask-at .ensures) in
+    let above = c .before .before .before .before .before .before .before .before .before .before .before .before .before .before .before .before .before .before .is-finite-above .ensures ∙ ap (λ (p : ℕ). aboveFinite link p (c .before .before .before .before .before .before .before .before .before .before .before .before .before .before .before .before .before .before .before .before .before .before .before .args .tables .now)) (c .before .before .before .before .before .before .before .before .before .before .before .before .before .before .before .before .before .before .before .parent-at .ensures) in
+    lowered (c .lower7 .ensures) (c .before .before .before .before .before .before .before .before .before .before .before .before .before .before .before .before .unless .ensures ∙ tested 1 (c .before .before .before .before .before .before .before .before .before .before .before .before .before .before .before .before .before .tables-fit .ensures))
+    (lowered (c .before .lower6 .ensures) (c .before .before .before .before .before .before .before .before .before .before .before .before .before .before .unless2 .ensures)
+    (lowered (c .before .before .lower5 .ensures) (c .before .before .before .before .before .before .before .before .before .before .before .before .before .unless3 .ensures ∙ tested 5 (ap (λ (y : ChangeTests). y .axis) t))
+    (lowered (c .before .before .before .lower4 .ensures) (c .before .before .before .before .before .before .before .before .before .before .before .before .unless4 .ensures ∙ tested 6 (ap (λ (y : ChangeTests). y .free) t))
+    (lowered (c .before .before .before .before .lower3 .ensures) (c .before .before .before .before .before .before .before .before .before .before .unless5 .ensures ∙ tested 7 (ap₂ _&&_ (ap (λ (y : ChangeTests). y .floats) t) above))
+    (lowered (c .before .before .before .before .before .lower2 .ensures) (c .before .before .before .before .before .before .before .before .before .unless6 .ensures ∙ tested 8 (ap (λ (y : ChangeTests). y .turns) t))
+    (lowered (c .before .before .before .before .before .before .lower .ensures) (c .before .before .before .before .before .before .before .before .unless7 .ensures ∙ tested 9 (ap (λ (y : ChangeTests). y .angle) t)) (c .before .before .before .before .before .before .before .arm-refusal .ensures)))))))
+
+pub move-refusal-spec : {M : Type 1} → statement M
+move-refusal-spec =
+    tie.close
+    (tie.spec
+    mask-at-requires
+    change-tests-requires
+    parent-at-requires
+    cast-is-finite-above
+    is-finite-above-requires
+    tables-fit-requires
+    unless-requires
+    unless-requires-2
+    unless-requires-3
+    unless-requires-4
+    unless-requires-5
+    unless-requires-6
+    unless-requires-7
+    arm-refusal-requires
+    lower-requires
+    lower-requires-2
+    lower-requires-3
+    lower-requires-4
+    lower-requires-5
+    lower-requires-6
+    lower-requires-7
+    returns)

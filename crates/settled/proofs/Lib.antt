@@ -1,0 +1,2 @@
+mod Block
+pub mod Lowest

@@ -1,0 +1,2 @@
+mod Links
+pub mod Settled
