@@ -1,1 +1,3 @@
 pub mod Sets
+mod Changed
+pub mod Move

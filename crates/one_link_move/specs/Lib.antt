@@ -1,2 +1,3 @@
 pub mod Change
 pub mod Move
+pub mod Promise

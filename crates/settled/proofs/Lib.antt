@@ -1,2 +1,10 @@
 mod Block
 pub mod Lowest
+pub mod Pass
+pub mod Accepted
+pub mod Lists
+pub mod Relinked
+pub mod Settles
+pub mod Right
+pub mod Sticky
+pub mod Modified

@@ -1,16 +1,15 @@
 -- The loop that integrates every joint: the links passed are done, the others are as they were, and the start runs along. Assumes nothing.
-use Prim.Native.Nat.{ℕ, zero, suc, _+_, _-_, _*_, _≤_, _<_}
+use Prim.Native.Nat.{ℕ, suc, _+_, _-_, _*_, _≤_, _<_}
 use mathlib.Core.Path.{_≡_, refl, sym, ap, ap₂, _∙_}
 use mathlib.Core.List.{List, [], _∷_, _++_, map, append-assoc}
 use native.Mathlib.Omega.{arith}
 use native.Mathlib.Numerals.{add-one}
-use lib.ListN.{length, take, drop, getD, set, length-map, length-set, length-append}
+use lib.ListN.{length, take, drop, getD, set, length-map, length-set}
 use lib.Seq.{drop-cons, set-at, getD-at, getD-take, length-take-le}
 use lib.Ieee.{Float}
 use Rattle.limits.specs.Limits.{linkLimit, dofLimit}
 use Rattle.masks.specs.Masks.{dofsOf}
 use Rattle.masks.specs.Starts.{startOf, totalOf}
-use Rattle.masks.proofs.Laws.{dofs-le}
 use Rattle.masks.proofs.Totals.{start-next, start-le}
 use Rattle.topology.specs.Tables.{each}
 use Rattle.topology.proofs.Tables.{length-each}

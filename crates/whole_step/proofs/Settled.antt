@@ -1,30 +1,32 @@
 -- The promises of the step: it leaves tags, parents and masks, and what it tests of the new joints is what an arm handed in is tested for, so the new arm
 -- is one that the full working takes. Assumes nothing.
-use Prim.Native.Nat.{ℕ, _+_, _≤_, _<_}
+use Prim.Native.Nat.{ℕ, _<_}
 use mathlib.Core.Path.{_≡_, refl, sym, ap, _∙_}
-use mathlib.Core.Bool.{Bool, true, _&&_}
+use mathlib.Core.Bool.{true}
 use mathlib.Core.Logic.{inl, inr}
-use mathlib.Core.List.{List, [], _∷_, _++_}
+use mathlib.Core.List.{List, [], _∷_}
+use native.Mathlib.Nat.{eq-zero-or-pos}
 use native.Mathlib.Omega.{arith}
-use lib.ListN.{length, drop, getD, length-append, length-drop, List·getD-append}
+use lib.ListN.{length, drop, length-append, length-drop, List·getD-append}
 use lib.Ieee.{Float}
 use Rattle.limits.specs.Limits.{linkLimit}
 use Rattle.refusal.specs.Refusal.{unlessOf}
 use Rattle.refusal.proofs.Laws.{is-lowest}
 use Rattle.floats.specs.Floats.{isFinite}
 use Rattle.planar.specs.Poses.{finitePoint, finitePose}
+use Rattle.multibody_joint.specs.declared.Joint.{Joint}
 use Rattle.multibody_joint.specs.Motion.{integrated}
 use Rattle.topology.specs.Tables.{each}
 use Rattle.topology.proofs.Tables.{length-each, getD-each}
 use Rattle.arm.specs.declared.Link.{Link}
 use Rattle.arm.specs.declared.Arm.{Arm}
-use Rattle.arm.specs.Arm.{liveLinks, linksOf}
+use Rattle.arm.specs.Arm.{liveLinks}
 use Rattle.arm.specs.HandedIn.{jointFinite, linkFinite, anglesFit, armRefusal}
 use Rattle.arm.proofs.Accepted.{both-hold}
 use Rattle.kinematics.specs.State.{noLink, linkAt}
 use Rattle.working.specs.Outcome.{tablesFit}
-use Rattle.working.proofs.Tests.{Standing, standing, both, holds-in, passes, not-refused, link-passes, links-pass, still-passes}
-use Rattle.working.proofs.Again.{call-settles, call-keeps}
+use Rattle.working.proofs.Tests.{standing, both, holds-in, passes, not-refused, link-passes, links-pass, still-passes}
+use Rattle.working.proofs.Again.{call-settles, call-keeps, call-joint}
 use Rattle.whole_step.specs.Step.{linkIntegrated, linkAfter, linksAfter, velocitiesOf, armAfter, linkJointFinite, jointsFinite, stepRefusal, wholeStep}
 use Rattle.whole_step.specs.Promises.{StepSettles, StepKeeps}
 
@@ -44,6 +46,11 @@ module _ (a : Arm) (sized : length (a .links) ≡ linkLimit) (dt : Float) where
   link-at j h =
       let n = liveLinks a in
       List·getD-append (each n (linkAfter a vs dt)) (drop n (a .links)) noLink j (omega (arith, length-each (linkAfter a vs dt) n)) ∙ getD-each (linkAfter a vs dt) n j noLink h
+
+  -- no link counts
+  none : liveLinks a ≡ 0 → length (linkAt (linksAfter a vs dt) 0 .joint .coordinates) ≡ length (linkAt (a .links) 0 .joint .coordinates)
+  unfolding linksAfter each
+  none e = rw e
 
   stands : (j : ℕ) → j < liveLinks a → standing (linkAt (linksAfter a vs dt) j) ≡ standing (linkAt (a .links) j)
   unfolding linkAfter linkIntegrated integrated
@@ -82,6 +89,13 @@ module _ (a : Arm) (sized : length (a .links) ≡ linkLimit) (dt : Float) where
   unfolding armAfter
   new-sized = sized-after
 
+  new-three : length (linkAt (a .links) 0 .joint .coordinates) ≡ 3 → length (linkAt (new .links) 0 .joint .coordinates) ≡ 3
+  unfolding armAfter linkAfter linkIntegrated integrated
+  new-three three = elim (eq-zero-or-pos (liveLinks a)) [
+    | inl e ↦ none e ∙ three
+    | inr h ↦ ap (λ (l : Link). length (l .joint .coordinates)) (link-at 0 h)
+  ]
+
 pub step-settles : StepSettles
 unfolding wholeStep
 step-settles a t dt sized r =
@@ -89,5 +103,10 @@ step-settles a t dt sized r =
 
 pub step-keeps : StepKeeps
 unfolding wholeStep
-step-keeps a t dt sized settled =
-    call-keeps a (armAfter a dt) (new-sized a sized dt) t (stepRefusal a (armAfter a dt) t dt) (changed a sized dt t) sized settled
+step-keeps a t dt sized three settled =
+    let k = stepRefusal a (armAfter a dt) t dt in
+    let leaves = call-keeps a (armAfter a dt) (new-sized a sized dt) t k (changed a sized dt t) sized settled in (
+      leaves .0,
+      call-joint a (armAfter a dt) (new-sized a sized dt) t k (changed a sized dt t) (λ (j : Joint). length (j .coordinates) ≡ 3) 0 three (new-three a sized dt three),
+      leaves .1,
+    )

@@ -5,7 +5,7 @@ use lib.ListN.{length}
 use lib.Ieee.{Float}
 use Rattle.limits.specs.Limits.{linkLimit}
 use Rattle.arm.specs.declared.Arm.{Arm}
-use Rattle.working.specs.Outcome.{Outcome}
+use Rattle.kinematics.specs.State.{linkAt}
 use Rattle.working.specs.Full.{Settled}
 use Rattle.whole_step.specs.Step.{wholeStep}
 
@@ -14,7 +14,9 @@ abbrev pub StepSettles : Type 0
 StepSettles = (a : Arm) (t : List Float) (dt : Float) → length (a .links) ≡ linkLimit
     → wholeStep a t dt .answer .refusal ≡ 0 → Settled (wholeStep a t dt .answer .arm) (wholeStep a t dt .memory)
 
--- and from such an arm and tables a step leaves such, refused or not
+-- and from such an arm and tables a step leaves such, refused or not; the root keeps its three coordinates
 abbrev pub StepKeeps : Type 0
-StepKeeps = (a : Arm) (t : List Float) (dt : Float) → length (a .links) ≡ linkLimit → Settled a t
-    → (length (wholeStep a t dt .answer .arm .links) ≡ linkLimit) × Settled (wholeStep a t dt .answer .arm) (wholeStep a t dt .memory)
+StepKeeps = (a : Arm) (t : List Float) (dt : Float) → length (a .links) ≡ linkLimit → length (linkAt (a .links) 0 .joint .coordinates) ≡ 3 → Settled a t
+    → (length (wholeStep a t dt .answer .arm .links) ≡ linkLimit)
+    × (length (linkAt (wholeStep a t dt .answer .arm .links) 0 .joint .coordinates) ≡ 3)
+    × Settled (wholeStep a t dt .answer .arm) (wholeStep a t dt .memory)

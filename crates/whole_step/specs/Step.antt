@@ -10,7 +10,6 @@ use Rattle.topology.specs.Tables.{each}
 use Rattle.multibody_joint.specs.declared.Joint.{Joint}
 use Rattle.multibody_joint.specs.Motion.{integrated}
 use Rattle.arm.specs.declared.Link.{Link}
-use Rattle.arm.specs.declared.Row.{Row}
 use Rattle.arm.specs.declared.RowName.the-variants.{Velocities}
 use Rattle.arm.specs.declared.Arm.{Arm}
 use Rattle.arm.specs.Arm.{liveLinks, linksOf, startAt, rowNumber}

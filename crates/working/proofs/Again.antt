@@ -14,6 +14,7 @@ use Rattle.limits.specs.Limits.{linkLimit, blockSize, tableSize}
 use Rattle.refusal.specs.Refusal.{unlessOf, lowerOf}
 use Rattle.floats.specs.Floats.{zero32}
 use Rattle.planar.specs.Poses.{finitePoint, finitePose}
+use Rattle.multibody_joint.specs.declared.Joint.{Joint}
 use Rattle.arm.specs.declared.Link.{Link}
 use Rattle.arm.specs.declared.Arm.{Arm}
 use Rattle.arm.specs.Arm.{liveLinks}
@@ -250,6 +251,13 @@ module _ (old new : Arm) (sized : length (new .links) ≡ linkLimit) (t : List F
       let w = worked old new t r in
       subst Leaves (sym (w .leaves)) (sized-after new sized t (w .long) p (w .fine), settled-after new sized t (w .long) p (w .fine))
 
+  -- it leaves every joint
+  joint-left : workedAll old new t .answer .refusal ≡ 0 → (j : ℕ) → linkAt (workedAll old new t .answer .arm .links) j .joint ≡ linkAt (new .links) j .joint
+  unfolding withPlace
+  joint-left r j =
+      ap (λ (o : Outcome). linkAt (o .answer .arm .links) j .joint) (worked old new t r .leaves)
+      ∙ ap (λ (l : Link). l .joint) (after-blank (new .links) (liveLinks new) every (cleared t) j)
+
   module _ (k : ℕ) (changed : k ≡ 0 → armRefusal new ≡ 0) where
     abbrev call : Outcome
     call = unlessRefused k old t (workedAll old new t)
@@ -284,6 +292,19 @@ module _ (old new : Arm) (sized : length (new .links) ≡ linkLimit) (t : List F
         go (suc r) e =
             let s = call-stays (λ z. let q : suc r ≡ 0 = sym e ∙ z in omega arith) in
             (ap (λ (x : Arm). length (x .links)) (s .0) ∙ places, subst (λ (x : Arm). Settled x (call .memory)) (sym (s .0)) (subst (λ (u : List Float). Settled old u) (sym (s .1)) settled))
+
+    -- what holds of a joint before and after the change holds of it after the call
+    pub call-joint : (P : Joint → Type 0) (j : ℕ) → P (linkAt (old .links) j .joint) → P (linkAt (new .links) j .joint) → P (linkAt (call .answer .arm .links) j .joint)
+    unfolding unlessRefused
+    call-joint P j was is = go (call .answer .refusal) refl
+      where
+        first : (k : ℕ) → unlessRefused k old t (workedAll old new t) .answer .refusal ≡ 0 → linkAt (unlessRefused k old t (workedAll old new t) .answer .arm .links) j .joint ≡ linkAt (new .links) j .joint
+        first zero r = joint-left r j
+        first (suc k) r = absurd (omega arith)
+
+        go : (r : ℕ) → call .answer .refusal ≡ r → P (linkAt (call .answer .arm .links) j .joint)
+        go zero e = subst P (sym (first k e)) is
+        go (suc r) e = subst (λ (x : Arm). P (linkAt (x .links) j .joint)) (sym (call-stays (λ z. let q : suc r ≡ 0 = sym e ∙ z in omega arith) .0)) was
 
 -- ---- the full working
 

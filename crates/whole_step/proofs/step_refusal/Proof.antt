@@ -1,8 +1,10 @@
+-- `step_refusal`: the same list of tests. Assumes nothing.
 use Prim.Native.Nat.{ℕ}
 use mathlib.Core.Path.{_≡_}
 use mathlib.Core.Bool.{Bool}
 use mathlib.Core.List.{List}
 use lib.Ieee.{Float, fin}
+use borrow.Author.Needs.{needs}
 use Rattle.refusal.specs.Refusal.{unlessOf, lowerOf}
 use Rattle.floats.specs.Floats.{isFinite}
 use Rattle.arm.specs.declared.Arm.{Arm}
@@ -10,17 +12,8 @@ use Rattle.arm.specs.HandedIn.{armRefusal}
 use Rattle.working.specs.Outcome.{tablesFit}
 use Rattle.whole_step.specs.declared.StepTests.{StepTests}
 use Rattle.whole_step.specs.Step.{stepRefusal, stepTestsOf}
-use borrow.Author.Needs.{needs}
 use Rattle.whole_step.proofs.step_refusal.Statement.{statement}
 use Rattle.whole_step.proofs.step_refusal.Tie as tie
-use Rattle.whole_step.proofs.step_refusal.Reads as reads
-use Rattle.whole_step.proofs.step_refusal.Lts as lts
-use Rattle.arm.proofs.arm_refusal.Reads as arm-refusal-reads
-use Rattle.floats.proofs.finite.Reads as finite-reads
-use Rattle.refusal.proofs.lower.Reads as lower-reads
-use Rattle.refusal.proofs.unless.Reads as unless-reads
-use Rattle.whole_step.proofs.step_tests.Reads as step-tests-reads
-use Rattle.working.proofs.tables_fit.Reads as tables-fit-reads
 
 same : (a new : Arm) (t : List Float) (dt : Float) {tests : StepTests} {fits fin : Bool} {u₁ u₇ u₉ own u₁₂ l₉ l₇ l₂ l₁ : ℕ}
     → tests ≡ stepTestsOf new → fits ≡ tablesFit t → fin ≡ isFinite dt → u₁ ≡ unlessOf fits 1 → u₇ ≡ unlessOf fin 7 → u₉ ≡ unlessOf (tests .angles) 9
@@ -29,57 +22,46 @@ same : (a new : Arm) (t : List Float) (dt : Float) {tests : StepTests} {fits fin
 unfolding stepRefusal stepTestsOf
 same a new t dt e f g p₁ p₇ p₉ p p₁₂ q₉ q₇ q₂ q₁ = rw (q₁, q₂, q₇, q₉, p₁, p₇, p₉, p, p₁₂, e, f, g)
 
--- src/lib.rt:99:9
 step-tests-requires : tie.Need-step-tests-requires
 step-tests-requires c κs = search needs
 
--- src/lib.rt:101:16
 tables-fit-requires : tie.Need-tables-fit-requires
 tables-fit-requires c κs = search needs
 
--- src/lib.rt:101:9
 unless-requires : tie.Need-unless-requires
 unless-requires c κs = search needs
 
--- src/lib.rt:103:20
 finite-requires : tie.Need-finite-requires
 finite-requires c κs = search needs
 
--- src/lib.rt:103:13
 unless-requires-2 : tie.Need-unless-requires-2
 unless-requires-2 c κs = search needs
 
--- src/lib.rt:105:17
 unless-requires-3 : tie.Need-unless-requires-3
 unless-requires-3 c κs = search needs
 
--- src/lib.rt:106:23
 arm-refusal-requires : tie.Need-arm-refusal-requires
 arm-refusal-requires c κs = search needs
 
--- src/lib.rt:106:41
 unless-requires-4 : tie.Need-unless-requires-4
 unless-requires-4 c κs = search needs
 
--- src/lib.rt:106:17
 lower-requires : tie.Need-lower-requires
 lower-requires c κs = search needs
 
--- src/lib.rt:104:13
 lower-requires-2 : tie.Need-lower-requires-2
 lower-requires-2 c κs = search needs
 
--- src/lib.rt:102:9
 lower-requires-3 : tie.Need-lower-requires-3
 lower-requires-3 c κs = search needs
 
--- src/lib.rt:100:5
 lower-requires-4 : tie.Need-lower-requires-4
 lower-requires-4 c κs = search needs
 
--- src/lib.rt:96:1
 returns : tie.Need-returns
-returns c = same (c .before .before .before .before .before .before .before .before .before .before .before .before .before .args .arm) (c .before .before .before .before .before .before .before .before .before .before .before .before .before .args .new) _ (c .before .before .before .before .before .before .before .before .before .before .before .before .before .args .dt) (c .before .before .before .before .before .before .before .before .before .before .before .step-tests .ensures) (c .before .before .before .before .before .before .before .before .before .before .tables-fit .ensures) (c .before .before .before .before .before .before .before .before .finite .ensures) (c .before .before .before .before .before .before .before .before .before .unless .ensures) (c .before .before .before .before .before .before .before .unless2 .ensures) (c .before .before .before .before .before .before .unless3 .ensures) (c .before .before .before .before .before .arm-refusal .ensures) (c .before .before .before .before .unless4 .ensures) (c .before .before .before .lower .ensures) (c .before .before .lower2 .ensures) (c .before .lower3 .ensures) (c .lower4 .ensures)
+returns c =
+    let own = c .before .before .before .before .before .before .before .before .before .before .before .before .before .args in
+    same (own .arm) (own .new) _ (own .dt) (c .before .before .before .before .before .before .before .before .before .before .before .step-tests .ensures) (c .before .before .before .before .before .before .before .before .before .before .tables-fit .ensures) (c .before .before .before .before .before .before .before .before .finite .ensures) (c .before .before .before .before .before .before .before .before .before .unless .ensures) (c .before .before .before .before .before .before .before .unless2 .ensures) (c .before .before .before .before .before .before .unless3 .ensures) (c .before .before .before .before .before .arm-refusal .ensures) (c .before .before .before .before .unless4 .ensures) (c .before .before .before .lower .ensures) (c .before .before .lower2 .ensures) (c .before .lower3 .ensures) (c .lower4 .ensures)
 
 pub step-refusal-spec : {M : Type 1} → statement M
 step-refusal-spec =

@@ -1,8 +1,10 @@
+-- `step_tests`: what is tested so far, with what is left, is the whole test. Assumes nothing.
 use Prim.Native.Nat.{ℕ, _-_, _≤_}
 use mathlib.Core.Path.{_≡_, refl}
 use mathlib.Core.Bool.{Bool}
 use native.Mathlib.Omega.{arith}
 use lib.ListN.{length, take}
+use borrow.Author.Needs.{needs}
 use Rattle.limits.specs.Limits.{linkLimit}
 use Rattle.arm.specs.declared.Arm.{Arm}
 use Rattle.arm.specs.Arm.{liveLinks, linksOf}
@@ -11,14 +13,8 @@ use Rattle.arm.proofs.Shape.{links-length}
 use Rattle.arm.proofs.Every.{Tested, front-more, front-all}
 use Rattle.whole_step.specs.declared.StepTests.{StepTests}
 use Rattle.whole_step.specs.Step.{linkJointFinite, stepTestsOf}
-use borrow.Author.Needs.{needs}
 use Rattle.whole_step.proofs.step_tests.Statement.{statement}
 use Rattle.whole_step.proofs.step_tests.Tie as tie
-use Rattle.whole_step.proofs.step_tests.Reads as reads
-use Rattle.whole_step.proofs.step_tests.Lts as lts
-use Rattle.arm.proofs.is_finite_joint.Reads as is-finite-joint-reads
-use Rattle.arm.proofs.live_links.Reads as live-links-reads
-use Rattle.whole_step.proofs.angle_fits.Reads as angle-fits-reads
 
 ended : (a : Arm) → length (a .links) ≡ linkLimit → (n i : ℕ) (g f : Bool) → n ≡ liveLinks a → n ≤ i
     → Tested linkAngleFits (take n (a .links)) i g → Tested linkJointFinite (take n (a .links)) i f
@@ -34,39 +30,30 @@ Inv-loop arm n angles₀ floats₀ i₀ angles floats i = (n ≡ liveLinks arm) 
 abbrev μ-loop : tie.MeasureT-loop
 μ-loop arm n angles₀ floats₀ i₀ angles floats i = n - i
 
--- src/lib.rt:81:9
 live-links-requires : tie.Need-live-links-requires Inv-loop μ-loop
 live-links-requires c κs = search needs
 
--- src/lib.rt:85:5
 loop-holds : tie.Need-loop-holds Inv-loop μ-loop
 loop-holds c = (c .live-links .ensures, omega arith, refl, refl)
 
--- src/lib.rt:86:17
 mul-l : tie.Need-mul-l Inv-loop μ-loop
 mul-l c = search needs
 
--- src/lib.rt:86:17
 element-copy-out-l : tie.Need-element-copy-out-l Inv-loop μ-loop
 element-copy-out-l c = search needs
 
--- src/lib.rt:87:27
 angle-fits-requires : tie.Need-angle-fits-requires Inv-loop μ-loop
 angle-fits-requires c κs = search needs
 
--- src/lib.rt:88:27
 is-finite-joint-requires : tie.Need-is-finite-joint-requires Inv-loop μ-loop
 is-finite-joint-requires c κs = search needs
 
--- src/lib.rt:89:9
 add-i : tie.Need-add-i Inv-loop μ-loop
 add-i c = search needs
 
--- src/lib.rt:85:5
 loop-less : tie.Need-loop-less Inv-loop μ-loop
 loop-less c = search needs
 
--- src/lib.rt:85:5
 loop-again : tie.Need-loop-again Inv-loop μ-loop
 loop-again c =
     let a = c .before .before .before .before .before .before .args .t1 in
@@ -79,7 +66,6 @@ loop-again c =
       front-more linkJointFinite (a .links) _ fits (k .i) (k .floats) _ _ (omega arith) (c .is-finite-joint .ensures) (k .inv .3),
     )
 
--- src/lib.rt:78:1
 returns : tie.Need-returns Inv-loop μ-loop
 returns c =
     let a = c .before .before .before .args .t1 in

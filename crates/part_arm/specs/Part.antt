@@ -1,0 +1,97 @@
+-- One part of a split as an arm, by document 01's 'Split'.
+use Prim.Native.Nat.{ℕ, min}
+use mathlib.Core.Bool.{Bool, cond, _&&_}
+use mathlib.Core.List.{List, [], _∷_, map}
+use lib.ListN.{length, take, drop, getD}
+use lib.Ieee.{Float, nan}
+use Rattle.limits.specs.Limits.{couplingLimit}
+use Rattle.masks.specs.Masks.{dofsOf}
+use Rattle.multibody_joint.specs.declared.Joint.{Joint}
+use Rattle.multibody_joint.specs.Joint.{fixedJoint}
+use Rattle.arm.specs.declared.Link.{Link}
+use Rattle.arm.specs.declared.Coupling.{Coupling}
+use Rattle.arm.specs.declared.Row.{Row}
+use Rattle.arm.specs.declared.Arm.{Arm}
+use Rattle.arm.specs.Arm.{liveLinks, maskAt, startAt}
+use Rattle.kinematics.specs.State.{linkAt}
+use Rattle.working.specs.Empty.{blankRow, emptyArm}
+use Rattle.part_arm.specs.Gathered.{gathered, chosen, laidOver}
+use Rattle.part_arm.specs.Places.{Places, goesOn}
+
+-- ---- links
+
+-- the link with another parent and another joint
+abbrev pub rejoined : Link → ℕ → Joint → Link
+rejoined l parent joint = record {
+  tag = l .tag;
+  parent = parent;
+  joint = joint;
+  centre = l .centre;
+  world = l .world;
+  shift02 = l .shift02;
+  shift23 = l .shift23;
+}
+
+-- a head is a root, with a fixed joint at its kept world pose; any other keeps its joint, and its parent's number is the new one
+unfoldable pub newLink : Bool → ℕ → Link → Link
+newLink head parent l = cond head (rejoined l 0 (fixedJoint (l .world))) (rejoined l parent (l .joint))
+
+-- the survivors in the part, rising
+unfoldable pub partLinks : Places → Arm → List Link
+partLinks p a =
+    chosen (liveLinks a) (p .here)
+    (λ j. let l = linkAt (a .links) j in newLink (p .head j) (p .number (l .parent)) l)
+
+-- ---- rows
+
+-- link j's own entries of a row: as many as its DoFs, from its start
+unfoldable pub ownEntries : Arm → List Float → ℕ → List Float
+ownEntries a entries j = take (dofsOf (maskAt a j)) (drop (startAt a j) entries)
+
+-- the entries of those that go on, in order; a head's are lost
+unfoldable pub partEntries : Places → Arm → List Float → List Float
+partEntries p a entries = gathered (liveLinks a) (λ j. cond (goesOn p j) (ownEntries a entries j) [])
+
+unfoldable pub partRow : Places → Arm → Row → Row
+partRow p a row = record { entries = laidOver (partEntries p a (row .entries)) (blankRow .entries) }
+
+-- ---- couplings
+
+-- what is read past the end of a list
+abbrev pub noCoupling : Coupling
+noCoupling = record { link1 = 0; axis1 = 0; link2 = 0; axis2 = 0; coefficient = nan; offset = nan }
+
+abbrev pub couplingAt : Arm → ℕ → Coupling
+couplingAt a i = getD (a .couplings) i noCoupling
+
+-- it stays if both links survive in the part and neither is a head
+unfoldable pub couplingStays : Places → Coupling → Bool
+couplingStays p c = goesOn p (c .link1) && goesOn p (c .link2)
+
+-- with the new numbers of its links
+unfoldable pub newCoupling : (ℕ → ℕ) → Coupling → Coupling
+newCoupling number c = record {
+  link1 = number (c .link1);
+  axis1 = c .axis1;
+  link2 = number (c .link2);
+  axis2 = c .axis2;
+  coefficient = c .coefficient;
+  offset = c .offset;
+}
+
+-- those that stay, in order
+unfoldable pub partCouplings : Places → Arm → List Coupling
+partCouplings p a =
+    chosen (min (a .«coupling_count») couplingLimit) (λ i. couplingStays p (couplingAt a i)) (λ i. newCoupling (p .number) (couplingAt a i))
+
+-- ---- the arm
+
+-- all that is past the counts is as in an empty arm; poses and shifts are worked out afterwards
+unfoldable pub partArm : Places → Arm → Arm
+partArm p a = record {
+  «link_count» = length (partLinks p a);
+  «coupling_count» = length (partCouplings p a);
+  links = laidOver (partLinks p a) (emptyArm .links);
+  couplings = laidOver (partCouplings p a) (emptyArm .couplings);
+  rows = map (partRow p a) (a .rows);
+}

@@ -1,0 +1,6 @@
+pub mod Heads
+pub mod Same
+pub mod Refused
+pub mod Chosen
+pub mod Picked
+pub mod Passing

@@ -1,0 +1,3 @@
+mod Rows
+mod Joints
+pub mod Settled

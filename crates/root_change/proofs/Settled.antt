@@ -1,0 +1,378 @@
+-- The promises of the root change: the new root's joint is one that an arm handed in may have, and the rows' entries that count are those that counted, or
+-- +0; so the new arm is one that the full working takes. Assumes nothing.
+use Prim.Native.Nat.{ℕ, zero, suc, _+_, _-_, _≤_, _<_}
+use mathlib.Core.Path.{_≡_, refl, sym, ap, ap₂, _∙_, subst}
+use mathlib.Core.Bool.{Bool, true, false, cond, _&&_, _||_}
+use mathlib.Core.Logic.{_⊎_, inl, inr}
+use mathlib.Core.List.{List, [], _∷_, _++_, map}
+use native.Mathlib.Omega.{arith}
+use borrow.Author.Tests.{ltb-true, eqb-true, eq-eqb}
+use lib.Dec.{eqb, ltb}
+use lib.ListN.{length, take, drop, getD, replicate}
+use lib.Seq.{take-take}
+use lib.Ieee.{Float, nan, ofBits, lt}
+use Rattle.limits.specs.Limits.{linkLimit, dofLimit}
+use Rattle.refusal.specs.Refusal.{unlessOf}
+use Rattle.refusal.proofs.Laws.{is-lowest}
+use Rattle.floats.specs.Floats.{zero32, isFinite, allFinite}
+use Rattle.masks.specs.Masks.{bitOf, isFree, dofsBelow, dofsOf}
+use Rattle.masks.specs.Starts.{totalOf}
+use Rattle.planar.specs.declared.Pose.{Pose}
+use Rattle.planar.specs.Rotation.{isBeyond}
+use Rattle.planar.specs.Poses.{rotationOf, translationOf, isTurn, finiteRotation, finitePoint, finitePose}
+use Rattle.multibody_joint.specs.declared.Joint.{Joint}
+use Rattle.multibody_joint.specs.Joint.{freeJoint, fixedJoint, freePosSet}
+use Rattle.arm.specs.declared.Link.{Link}
+use Rattle.arm.specs.declared.Row.{Row}
+use Rattle.arm.specs.declared.Arm.{Arm}
+use Rattle.arm.specs.Arm.{liveLinks, linksOf, couplingsOf, tagOf, parentOf, lockedOf, masksOf, dofCountOf, entriesTo, rowsOf}
+use Rattle.arm.specs.Edits.{modify}
+use Rattle.arm.specs.HandedIn.{every, tagsUnique, linkNumbersFit, jointMasksFit, linkMasksFit, rootFits, couplingAxesFit, masksAndAxesFit, jointFinite, linkFinite, couplingFinite, rowsFinite, floatsFinite, angleFits, linkAngleFits, anglesFit, armRefusal}
+use Rattle.arm.proofs.Accepted.{both-hold}
+use Rattle.arm.proofs.Every.{every-map}
+use Rattle.arm.proofs.Live.{dof-count-le, root-some}
+use Rattle.kinematics.specs.State.{noLink, linkAt}
+use Rattle.kinematics.proofs.Small.{differ}
+use Rattle.working.specs.Outcome.{tablesFit}
+use Rattle.working.proofs.Tests.{Passes, both, holds-in, passes, not-refused, link-passes, links-pass, each-passes, all-pass, tags-stay, numbers-stay}
+use Rattle.working.proofs.Again.{call-settles, call-keeps, call-joint}
+use Rattle.root_change.specs.Root.{isRootMask, withFrame1, rootJoint, rootLink, widened, narrowed, rootRow, rootMask, rootRows, rootChanged, rootRefusal, changedRoot}
+use Rattle.root_change.specs.Promises.{RootSettles, RootKeeps}
+
+-- ---- the joint
+
+zero-finite : isFinite zero32 ≡ true
+unfolding ofBits
+zero-finite = refl
+
+abbrev Kind : ℕ → Type 0
+Kind locked = isRootMask locked ≡ true
+
+-- what holds of each of the four joints holds of the root's
+by-type : (P : Joint → Type 0) (locked : ℕ) (p : Pose) (j : Joint) → P (freePosSet j p) → P (withFrame1 j p) → P (freeJoint p) → P (fixedJoint p) → P (rootJoint locked p j)
+unfolding rootJoint
+by-type P locked p j a b c d = go (eqb (j .locked) locked) (eqb locked 0)
+  where
+    go : (s f : Bool) → P (cond s (cond f (freePosSet j p) (withFrame1 j p)) (cond f (freeJoint p) (fixedJoint p)))
+    go true true = a
+    go true false = b
+    go false true = c
+    go false false = d
+
+kinds : (locked : ℕ) → Kind locked → (locked ≡ 7) ⊎ (locked ≡ 0)
+kinds locked k = go (eqb locked 7) refl (eqb locked 0) refl k
+  where
+    go : (b : Bool) → eqb locked 7 ≡ b → (c : Bool) → eqb locked 0 ≡ c → (b || c) ≡ true → (locked ≡ 7) ⊎ (locked ≡ 0)
+    go true e c f h = inl (eqb-true locked 7 e)
+    go false e true f h = inr (eqb-true locked 0 f)
+    go false e false f h = differ (sym h)
+
+root-locked : (locked : ℕ) (p : Pose) (j : Joint) → Kind locked → rootJoint locked p j .locked ≡ locked
+unfolding rootJoint freePosSet withFrame1 freeJoint fixedJoint
+root-locked locked p j k = go (eqb (j .locked) locked) refl (eqb locked 0) refl
+  where
+    go : (s : Bool) → eqb (j .locked) locked ≡ s → (f : Bool) → eqb locked 0 ≡ f
+        → cond s (cond f (freePosSet j p) (withFrame1 j p)) (cond f (freeJoint p) (fixedJoint p)) .locked ≡ locked
+    go true e true h = eqb-true (j .locked) locked e
+    go true e false h = eqb-true (j .locked) locked e
+    go false e true h = sym (eqb-true locked 0 h)
+    go false e false h = elim (kinds locked k) [ inl s ↦ sym s | inr z ↦ differ (sym (eq-eqb locked 0 z) ∙ h) ]
+
+module _ (locked : ℕ) (p : Pose) (j : Joint) where
+  masks-fit : jointMasksFit j ≡ true → jointMasksFit (rootJoint locked p j) ≡ true
+  unfolding jointMasksFit freePosSet withFrame1 freeJoint fixedJoint
+  masks-fit h = by-type (λ (k : Joint). jointMasksFit k ≡ true) locked p j h h refl refl
+
+  angle-stays : angleFits j ≡ true → angleFits (rootJoint locked p j) ≡ true
+  unfolding angleFits isBeyond lt ofBits freePosSet withFrame1 freeJoint fixedJoint
+  angle-stays h = by-type (λ (k : Joint). angleFits k ≡ true) locked p j h h refl refl
+
+  finite-stays : length (j .coordinates) ≡ 3 → finitePose p ≡ true → jointFinite j ≡ true → jointFinite (rootJoint locked p j) ≡ true
+  unfolding jointFinite finitePose finiteRotation finitePoint rotationOf translationOf ofBits freePosSet withFrame1 freeJoint fixedJoint
+  finite-stays three f h =
+      let turn = both-hold (isFinite (p .re) && isFinite (p .im)) (isFinite (p .x) && isFinite (p .y)) f in
+      let place = both-hold (isFinite (p .x)) (isFinite (p .y)) (turn .1) in
+      let rest = both-hold _ (allFinite (j .rest)) h in
+      let stiffness = both-hold _ (allFinite (j .stiffness)) (rest .0) in
+      let rotation = both-hold _ (finiteRotation (j .rotation)) (stiffness .0) in
+      let coordinates = both-hold _ (allFinite (j .coordinates)) (rotation .0) in
+      let frames = both-hold (finitePose (j .frame1)) (finitePose (j .frame2)) (coordinates .0) in
+      let kept = both (third (j .coordinates) three (coordinates .1)) refl in
+      by-type (λ (k : Joint). jointFinite k ≡ true) locked p j
+      (both (both (both (both (coordinates .0) (both (place .0) (both (place .1) kept))) (turn .0)) (stiffness .1)) (rest .1))
+      (both (both (both (both (both f (frames .1)) (coordinates .1)) (rotation .1)) (stiffness .1)) (rest .1))
+      (both (both (both (both refl (both (place .0) (both (place .1) refl))) (turn .0)) refl) refl)
+      (both (both (both (both (both f refl) refl) refl) refl) refl)
+    where
+      third : (xs : List Float) → length xs ≡ 3 → allFinite xs ≡ true → isFinite (getD xs 2 nan) ≡ true
+      third [] l e = absurd (omega arith)
+      third (x ∷ []) l e = absurd (omega arith)
+      third (x ∷ y ∷ []) l e = absurd (omega arith)
+      third (x ∷ y ∷ z ∷ xs) l e = both-hold (isFinite z) _ (both-hold (isFinite y) _ (both-hold (isFinite x) _ e .1) .1) .0
+
+  three-stay : length (j .coordinates) ≡ 3 → length (rootJoint locked p j .coordinates) ≡ 3
+  unfolding freePosSet withFrame1 freeJoint fixedJoint
+  three-stay h = by-type (λ (k : Joint). length (k .coordinates) ≡ 3) locked p j refl h refl refl
+
+-- ---- a row
+
+fixed-dofs : dofsOf 7 ≡ 0
+unfolding dofsOf dofsBelow isFree bitOf
+fixed-dofs = refl
+
+free-dofs : dofsOf 0 ≡ 3
+unfolding dofsOf dofsBelow isFree bitOf
+free-dofs = refl
+
+take-finite : (n : ℕ) (xs : List Float) → allFinite xs ≡ true → allFinite (take n xs) ≡ true
+take-finite zero xs e = refl
+take-finite (suc n) [] e = refl
+take-finite (suc n) (x ∷ xs) e = let q = both-hold (isFinite x) (allFinite xs) e in both (q .0) (take-finite n xs (q .1))
+
+append-finite : (n : ℕ) (xs ys : List Float) → allFinite (take n xs) ≡ true → allFinite ys ≡ true → allFinite (take n (xs ++ ys)) ≡ true
+append-finite zero xs ys e f = refl
+append-finite (suc n) [] ys e f = take-finite (suc n) ys f
+append-finite (suc n) (x ∷ xs) ys e f = let q = both-hold (isFinite x) (allFinite (take n xs)) e in both (q .0) (append-finite n xs ys (q .1) f)
+
+drop-finite : (n : ℕ) (xs : List Float) → allFinite (take (suc (suc (suc n))) xs) ≡ true → allFinite (take n (drop 3 xs)) ≡ true
+drop-finite n [] e = take-finite n [] refl
+drop-finite n (x ∷ []) e = take-finite n [] refl
+drop-finite n (x ∷ y ∷ []) e = take-finite n [] refl
+drop-finite n (x ∷ y ∷ z ∷ xs) e = both-hold (isFinite z) _ (both-hold (isFinite y) _ (both-hold (isFinite x) _ e .1) .1) .1
+
+zeros-finite : allFinite (replicate 3 zero32) ≡ true
+unfolding ofBits
+zeros-finite = refl
+
+abbrev finiteTo : ℕ → Row → Bool
+finiteTo n row = allFinite (take n (row .entries))
+
+-- n DoFs behind the root's
+module _ (n : ℕ) (row : Row) where
+  wider-finite : n ≤ dofLimit - 3 → allFinite (take n (row .entries)) ≡ true → allFinite (take (suc (suc (suc n))) (widened row .entries)) ≡ true
+  unfolding widened
+  wider-finite h e =
+      both zero-finite (both zero-finite (both zero-finite (ap allFinite (take-take n (dofLimit - 3) (row .entries) h) ∙ e)))
+
+  narrower-finite : allFinite (take (suc (suc (suc n))) (row .entries)) ≡ true → allFinite (take n (narrowed row .entries)) ≡ true
+  unfolding narrowed
+  narrower-finite e = append-finite n (drop 3 (row .entries)) (replicate 3 zero32) (drop-finite n (row .entries) e) zeros-finite
+
+  -- from each type to each
+  row-finite : (from to : ℕ) → Kind from → Kind to → dofsOf to + n ≤ dofLimit → allFinite (take (dofsOf from + n) (row .entries)) ≡ true
+      → allFinite (take (dofsOf to + n) (rootRow from to row .entries)) ≡ true
+  unfolding rootRow
+  row-finite from to kf kt = elim (kinds from kf) [
+    | inl f7 ↦ elim (kinds to kt) [ inl t7 ↦ at f7 t7 (λ h e. e) | inr t0 ↦ at f7 t0 wider ]
+    | inr f0 ↦ elim (kinds to kt) [ inl t7 ↦ at f0 t7 narrower | inr t0 ↦ at f0 t0 (λ h e. e) ]
+  ]
+    where
+      Shifts : ℕ → ℕ → Type 0
+      Shifts k m = dofsOf m + n ≤ dofLimit → allFinite (take (dofsOf k + n) (row .entries)) ≡ true → allFinite (take (dofsOf m + n) (rootRow k m row .entries)) ≡ true
+
+      at : {k m : ℕ} → from ≡ k → to ≡ m → Shifts k m → Shifts from to
+      at {k} {m} e f s = subst (λ (x : ℕ). Shifts x to) (sym e) (subst (λ (y : ℕ). Shifts k y) (sym f) s)
+
+      wider : Shifts 7 0
+      wider h e =
+          let m : dofsOf 0 + n ≡ suc (suc (suc n)) = omega (arith, free-dofs) in
+          let o : n ≡ dofsOf 7 + n = omega (arith, fixed-dofs) in
+          ap (λ (k : ℕ). allFinite (take k (widened row .entries))) m ∙ wider-finite (omega (arith, free-dofs)) (ap (λ (k : ℕ). allFinite (take k (row .entries))) o ∙ e)
+
+      narrower : Shifts 0 7
+      narrower h e =
+          let m : dofsOf 7 + n ≡ n = omega (arith, fixed-dofs) in
+          let o : suc (suc (suc n)) ≡ dofsOf 0 + n = omega (arith, free-dofs) in
+          ap (λ (k : ℕ). allFinite (take k (narrowed row .entries))) m ∙ narrower-finite (ap (λ (k : ℕ). allFinite (take k (row .entries))) o ∙ e)
+
+-- ---- the arm
+
+-- the DoFs behind the first link's
+abbrev behindFirst : ℕ → List Link → ℕ
+behindFirst n [] = 0
+behindFirst n (l ∷ ls) = totalOf (map lockedOf (take n ls))
+
+first-total : (n : ℕ) (ls : List Link) → 0 < length ls → totalOf (map lockedOf (take (suc n) ls)) ≡ dofsOf (linkAt ls 0 .joint .locked) + behindFirst n ls
+unfolding totalOf
+first-total n [] h = absurd (omega arith)
+first-total n (l ∷ ls) h = refl
+
+-- the first of a list changed
+module _ (f : Link → Link) where
+  first-changed : (ls : List Link) → 0 < length ls → linkAt (modify f 0 ls) 0 ≡ f (linkAt ls 0)
+  unfolding modify
+  first-changed [] h = absurd (omega arith)
+  first-changed (l ∷ ls) h = refl
+
+  others-stay : (ls : List Link) (j : ℕ) → linkAt (modify f 0 ls) (suc j) ≡ linkAt ls (suc j)
+  unfolding modify
+  others-stay [] j = refl
+  others-stay (l ∷ ls) j = refl
+
+  modify-length : (ls : List Link) → length (modify f 0 ls) ≡ length ls
+  unfolding modify
+  modify-length [] = refl
+  modify-length (l ∷ ls) = refl
+
+  behind-stays : (n : ℕ) (ls : List Link) → behindFirst n (modify f 0 ls) ≡ behindFirst n ls
+  unfolding modify
+  behind-stays n [] = refl
+  behind-stays n (l ∷ ls) = refl
+
+module _ (a : Arm) (sized : length (a .links) ≡ linkLimit) (three : length (linkAt (a .links) 0 .joint .coordinates) ≡ 3) (locked : ℕ) (p : Pose) (some : 0 < a .«link_count») (kind : Kind locked) (pose : finitePose p ≡ true)
+    (old : armRefusal a ≡ 0) where
+  abbrev change : Link → Link
+  change = rootLink locked p
+
+  abbrev ls : List Link
+  ls = modify change 0 (a .links)
+
+  abbrev new : Arm
+  new = rootChanged a locked p
+
+  was : Passes a
+  was = passes a old
+
+  sized-after : length ls ≡ linkLimit
+  sized-after = modify-length change (a .links) ∙ sized
+
+  root-at : linkAt ls 0 ≡ change (linkAt (a .links) 0)
+  root-at = first-changed change (a .links) (omega arith)
+
+  -- what the change leaves of the root, every link keeps
+  view-stays : {A : Type 0} (g : Link → A) → g (change (linkAt (a .links) 0)) ≡ g (linkAt (a .links) 0) → (j : ℕ) → j < liveLinks a → g (linkAt ls j) ≡ g (linkAt (a .links) j)
+  view-stays g e zero h = ap g root-at ∙ e
+  view-stays g e (suc j) h = ap g (others-stay change (a .links) j)
+
+  -- what the new root passes, every link does
+  test-stays : (test : Link → Bool) → every test (linksOf a) ≡ true → (test (linkAt (a .links) 0) ≡ true → test (change (linkAt (a .links) 0)) ≡ true) → (j : ℕ) → j < liveLinks a → test (linkAt ls j) ≡ true
+  test-stays test e f zero h = ap test root-at ∙ f (link-passes a sized test e 0 h)
+  test-stays test e f (suc j) h = ap test (others-stay change (a .links) j) ∙ link-passes a sized test e (suc j) h
+
+  abbrev root : Joint
+  root = linkAt (a .links) 0 .joint
+
+  masks-were : (every linkMasksFit (linksOf a) ≡ true) × (rootFits a ≡ true)
+  masks-were = both-hold _ _ (both-hold _ (every couplingAxesFit (couplingsOf a)) (was .masks) .0)
+
+  was-kind : Kind (rootMask a)
+  was-kind = root-some a sized noLink (λ z. omega arith) ∙ masks-were .1
+
+  new-mask : linkAt ls 0 .joint .locked ≡ locked
+  unfolding rootLink
+  new-mask = ap (λ (l : Link). l .joint .locked) root-at ∙ root-locked locked p root kind
+
+  masks-after : masksAndAxesFit new ≡ true
+  unfolding rootChanged rootLink couplingsOf
+  masks-after =
+      both
+      (both
+      (links-pass new sized-after linkMasksFit (test-stays linkMasksFit (masks-were .0) (masks-fit locked p root)))
+      (sym (root-some new sized-after noLink (λ z. omega arith)) ∙ ap isRootMask new-mask ∙ kind))
+      (both-hold (every linkMasksFit (linksOf a) && rootFits a) _ (was .masks) .1)
+
+  angles-after : anglesFit new ≡ true
+  unfolding rootChanged rootLink
+  angles-after = links-pass new sized-after linkAngleFits (test-stays linkAngleFits (was .angles) (angle-stays locked p root))
+
+  floats-were : ((every linkFinite (linksOf a) && every couplingFinite (couplingsOf a)) ≡ true) × (rowsFinite a ≡ true)
+  floats-were = both-hold _ (rowsFinite a) (was .floats)
+
+  link-finite : linkFinite (linkAt (a .links) 0) ≡ true → linkFinite (change (linkAt (a .links) 0)) ≡ true
+  unfolding rootLink linkFinite
+  link-finite h =
+      let l = linkAt (a .links) 0 in
+      let s23 = both-hold _ (finitePoint (l .shift23)) h in
+      let s02 = both-hold _ (finitePoint (l .shift02)) (s23 .0) in
+      let world = both-hold _ (finitePose (l .world)) (s02 .0) in
+      let own = both-hold (jointFinite root) (finitePoint (l .centre)) (world .0) in
+      both (both (both (both (finite-stays locked p root three pose (own .0)) (own .1)) (world .1)) (s02 .1)) (s23 .1)
+
+  -- the DoFs behind the root's stay
+  abbrev n : ℕ
+  n = behindFirst (liveLinks a - 1) (a .links)
+
+  dofs-were : dofCountOf a ≡ dofsOf (rootMask a) + n
+  unfolding dofCountOf masksOf linksOf
+  dofs-were = let e : liveLinks a ≡ suc (liveLinks a - 1) = omega arith in ap (λ (k : ℕ). totalOf (map lockedOf (take k (a .links)))) e ∙ first-total (liveLinks a - 1) (a .links) (omega arith)
+
+  dofs-after : dofCountOf new ≡ dofsOf locked + n
+  unfolding dofCountOf masksOf linksOf rootChanged
+  dofs-after =
+      let e : liveLinks a ≡ suc (liveLinks a - 1) = omega arith in
+      ap (λ (k : ℕ). totalOf (map lockedOf (take k ls))) e
+      ∙ first-total (liveLinks a - 1) ls (omega (arith, sized-after))
+      ∙ ap₂ (λ (x y : ℕ). x + y) (ap dofsOf new-mask) (behind-stays change (liveLinks a - 1) (a .links))
+
+  rows-after : rowsFinite new ≡ true
+  unfolding rowsFinite rowsOf rootChanged rootRows
+  rows-after =
+      let g = rootRow (rootMask a) locked in
+      every-map allFinite (entriesTo (dofCountOf new)) (map g (a .rows))
+      ∙ every-map (finiteTo (dofCountOf new)) g (a .rows)
+      ∙ all-pass (λ (r : Row). finiteTo (dofCountOf new) (g r)) (a .rows) (record { entries = [] }) (λ j h.
+      let r = getD (a .rows) j (record { entries = [] }) in
+      let e : finiteTo (dofCountOf a) r ≡ true = each-passes (finiteTo (dofCountOf a)) (a .rows) (record { entries = [] }) (sym (every-map allFinite (entriesTo (dofCountOf a)) (a .rows)) ∙ floats-were .1) j h in
+      ap (λ (k : ℕ). allFinite (take k (g r .entries))) dofs-after
+      ∙ row-finite n r (rootMask a) locked was-kind kind (omega (arith, dofs-after, dof-count-le new)) (ap (λ (k : ℕ). allFinite (take k (r .entries))) (sym dofs-were) ∙ e))
+
+  floats-after : floatsFinite new ≡ true
+  unfolding couplingsOf rootChanged
+  floats-after =
+      let q = both-hold (every linkFinite (linksOf a)) _ (floats-were .0) in
+      both (both (links-pass new sized-after linkFinite (test-stays linkFinite (q .0) link-finite)) (q .1)) rows-after
+
+  tags-after : tagsUnique new ≡ tagsUnique a
+  unfolding rootChanged rootLink
+  tags-after = tags-stay a sized ls sized-after (rootRows a locked) (view-stays tagOf refl)
+
+  numbers-after : linkNumbersFit new ≡ linkNumbersFit a
+  unfolding rootChanged rootLink
+  numbers-after = numbers-stay a sized ls sized-after (rootRows a locked) (view-stays parentOf refl)
+
+  accepted-after : armRefusal new ≡ 0
+  unfolding rootChanged
+  accepted-after = not-refused new (record {
+    counts = was .counts;
+    tags = tags-after ∙ was .tags;
+    numbers = numbers-after ∙ was .numbers;
+    masks = masks-after;
+    floats = floats-after;
+    angles = angles-after;
+  })
+
+-- ---- the call
+
+module _ (a : Arm) (sized : length (a .links) ≡ linkLimit) (three : length (linkAt (a .links) 0 .joint .coordinates) ≡ 3) (locked : ℕ) (p : Pose) where
+  changed : (t : List Float) → rootRefusal a t locked p ≡ 0 → armRefusal (rootChanged a locked p) ≡ 0
+  unfolding rootRefusal
+  changed t e =
+      let ks = unlessOf (tablesFit t) 1 ∷ unlessOf (ltb 0 (a .«link_count»)) 4 ∷ unlessOf (isRootMask locked) 5 ∷ unlessOf (finitePose p) 7 ∷ unlessOf (isTurn (rotationOf p)) 8 ∷ armRefusal a ∷ [] in
+      accepted-after a sized three locked p
+      (ltb-true 0 (a .«link_count») (holds-in ks e (ltb 0 (a .«link_count»)) 3 (inr (inl refl))))
+      (holds-in ks e (isRootMask locked) 4 (inr (inr (inl refl))))
+      (holds-in ks e (finitePose p) 6 (inr (inr (inr (inl refl)))))
+      (is-lowest ks .none e (armRefusal a) (inr (inr (inr (inr (inr (inl refl)))))))
+
+  new-sized : length (rootChanged a locked p .links) ≡ linkLimit
+  unfolding rootChanged
+  new-sized = modify-length (rootLink locked p) (a .links) ∙ sized
+
+  new-three : length (linkAt (rootChanged a locked p .links) 0 .joint .coordinates) ≡ 3
+  unfolding rootChanged rootLink
+  new-three = ap (λ (l : Link). length (l .joint .coordinates)) (first-changed (rootLink locked p) (a .links) (omega arith)) ∙ three-stay locked p (linkAt (a .links) 0 .joint) three
+
+pub root-settles : RootSettles
+unfolding changedRoot
+root-settles a t locked p sized three r =
+    call-settles a (rootChanged a locked p) (new-sized a sized three locked p) t (rootRefusal a t locked p) (changed a sized three locked p t) r .1
+
+pub root-keeps : RootKeeps
+unfolding changedRoot
+root-keeps a t locked p sized three settled =
+    let leaves = call-keeps a (rootChanged a locked p) (new-sized a sized three locked p) t (rootRefusal a t locked p) (changed a sized three locked p t) sized settled in (
+      leaves .0,
+      call-joint a (rootChanged a locked p) (new-sized a sized three locked p) t (rootRefusal a t locked p) (changed a sized three locked p t) (λ (j : Joint). length (j .coordinates) ≡ 3) 0 three
+          (new-three a sized three locked p),
+      leaves .1,
+    )

@@ -1,0 +1,28 @@
+-- `root_row`: each branch is its case of the definition. Assumes nothing.
+use borrow.Author.Needs.{needs}
+use Rattle.root_change.proofs.Rows.{row-stays, row-wider, row-narrower}
+use Rattle.root_change.proofs.root_row.Statement.{statement}
+use Rattle.root_change.proofs.root_row.Tie as tie
+
+returns : tie.Need-returns
+returns c = row-stays (c .before .args .from) (c .before .args .to) (c .before .args .row) (c .if1 .taken)
+
+widened-row-requires : tie.Need-widened-row-requires
+widened-row-requires c κs = search needs
+
+returns-2 : tie.Need-returns-2
+returns-2 c =
+    let own = c .before .before .before .args in
+    row-wider (own .from) (own .to) (own .row) (c .before .before .if1 .left) (c .before .if2 .taken) (c .widened-row .ensures)
+
+narrowed-row-requires : tie.Need-narrowed-row-requires
+narrowed-row-requires c κs = search needs
+
+returns-3 : tie.Need-returns-3
+returns-3 c =
+    let own = c .before .before .before .args in
+    row-narrower (own .from) (own .to) (own .row) (c .before .before .if1 .left) (c .before .if2 .left) (c .narrowed-row .ensures)
+
+pub root-row-spec : {M : Type 1} → statement M
+root-row-spec =
+    tie.close (tie.spec returns widened-row-requires returns-2 narrowed-row-requires returns-3)

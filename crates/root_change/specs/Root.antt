@@ -1,0 +1,107 @@
+-- The root change (`update_root_type`), by the type, which is its locked mask, and the pose; then the full working.
+use Prim.Native.Nat.{ℕ, _-_}
+use mathlib.Core.Bool.{Bool, cond, _||_}
+use mathlib.Core.List.{List, [], _∷_, _++_, map}
+use lib.Dec.{eqb, ltb}
+use lib.ListN.{take, drop, replicate}
+use lib.Ieee.{Float}
+use Rattle.limits.specs.Limits.{dofLimit}
+use Rattle.refusal.specs.Refusal.{unlessOf, lowest}
+use Rattle.floats.specs.Floats.{zero32}
+use Rattle.planar.specs.declared.Pose.{Pose}
+use Rattle.planar.specs.Poses.{rotationOf, isTurn, finitePose}
+use Rattle.multibody_joint.specs.declared.Joint.{Joint}
+use Rattle.multibody_joint.specs.Joint.{freeJoint, fixedJoint, freePosSet}
+use Rattle.arm.specs.declared.Link.{Link}
+use Rattle.arm.specs.declared.Row.{Row}
+use Rattle.arm.specs.declared.Arm.{Arm}
+use Rattle.arm.specs.Edits.{modify}
+use Rattle.arm.specs.HandedIn.{armRefusal}
+use Rattle.kinematics.specs.State.{linkAt}
+use Rattle.working.specs.Outcome.{Outcome, unlessRefused, tablesFit, workedAll}
+
+-- ---- the root's joint
+
+-- a root is fixed or free
+abbrev pub isRootMask : ℕ → Bool
+isRootMask locked = eqb locked 7 || eqb locked 0
+
+-- the joint with frame 1 at the pose
+unfoldable pub withFrame1 : Joint → Pose → Joint
+withFrame1 j p = record {
+  locked = j .locked;
+  limit = j .limit;
+  motor = j .motor;
+  frame1 = p;
+  frame2 = j .frame2;
+  coordinates = j .coordinates;
+  rotation = j .rotation;
+  stiffness = j .stiffness;
+  rest = j .rest;
+}
+
+-- the same type: a free joint's position is set, or a fixed one's frame 1; another: a free or a fixed joint comes in at the pose
+unfoldable pub rootJoint : ℕ → Pose → Joint → Joint
+rootJoint locked p j =
+    cond (eqb (j .locked) locked)
+    (cond (eqb locked 0) (freePosSet j p) (withFrame1 j p))
+    (cond (eqb locked 0) (freeJoint p) (fixedJoint p))
+
+-- tag, parent and centre of mass stay
+unfoldable pub rootLink : ℕ → Pose → Link → Link
+rootLink locked p l = record {
+  tag = l .tag;
+  parent = l .parent;
+  joint = rootJoint locked p (l .joint);
+  centre = l .centre;
+  world = l .world;
+  shift02 = l .shift02;
+  shift23 = l .shift23;
+}
+
+-- ---- a row
+
+-- three zeros come in front; what falls off behind is past every DoF
+unfoldable pub widened : Row → Row
+widened row = record { entries = replicate 3 zero32 ++ take (dofLimit - 3) (row .entries) }
+
+-- the first three go; +0 comes in behind, past every DoF
+unfoldable pub narrowed : Row → Row
+narrowed row = record { entries = drop 3 (row .entries) ++ replicate 3 zero32 }
+
+-- from one type to another; the same type leaves it
+unfoldable pub rootRow : ℕ → ℕ → Row → Row
+rootRow from to row = cond (eqb from to) row (cond (eqb to 0) (widened row) (narrowed row))
+
+-- ---- the change
+
+abbrev pub rootMask : Arm → ℕ
+rootMask a = linkAt (a .links) 0 .joint .locked
+
+-- every row alike
+unfoldable pub rootRows : Arm → ℕ → List Row
+rootRows a locked = map (rootRow (rootMask a) locked) (a .rows)
+
+-- the arm with its root changed, and nothing worked out
+unfoldable pub rootChanged : Arm → ℕ → Pose → Arm
+rootChanged a locked p = record {
+  «link_count» = a .«link_count»;
+  «coupling_count» = a .«coupling_count»;
+  links = modify (rootLink locked p) 0 (a .links);
+  couplings = a .couplings;
+  rows = rootRows a locked;
+}
+
+unfoldable pub rootRefusal : Arm → List Float → ℕ → Pose → ℕ
+rootRefusal a t locked p =
+    lowest
+    (unlessOf (tablesFit t) 1
+    ∷ unlessOf (ltb 0 (a .«link_count»)) 4
+    ∷ unlessOf (isRootMask locked) 5
+    ∷ unlessOf (finitePose p) 7
+    ∷ unlessOf (isTurn (rotationOf p)) 8
+    ∷ armRefusal a
+    ∷ [])
+
+unfoldable pub changedRoot : Arm → List Float → ℕ → Pose → Outcome
+changedRoot a t locked p = unlessRefused (rootRefusal a t locked p) a t (workedAll a (rootChanged a locked p) t)

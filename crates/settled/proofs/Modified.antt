@@ -1,0 +1,53 @@
+-- A list with one element changed. Assumes nothing.
+use Prim.Native.Nat.{ℕ, zero, suc, _≤_, _<_}
+use mathlib.Core.Path.{_≡_, refl, sym, ap, _∙_}
+use mathlib.Core.Logic.{_≢_}
+use mathlib.Core.Bool.{Bool, true, _&&_}
+use mathlib.Core.List.{List, [], _∷_, map}
+use native.Mathlib.Omega.{arith}
+use lib.ListN.{length, take, getD}
+use Rattle.arm.specs.Edits.{modify}
+use Rattle.arm.specs.HandedIn.{every}
+use Rattle.arm.proofs.Accepted.{both-hold}
+use Rattle.settled.proofs.Lists.{both}
+
+module _ {A : Type 0} (f : A → A) where
+  pub length-modify : (i : ℕ) (xs : List A) → length (modify f i xs) ≡ length xs
+  unfolding modify
+  length-modify i [] = refl
+  length-modify zero (x ∷ xs) = refl
+  length-modify (suc i) (x ∷ xs) = ap suc (length-modify i xs)
+
+  pub modify-same : (i : ℕ) (xs : List A) (d : A) → i < length xs → getD (modify f i xs) i d ≡ f (getD xs i d)
+  unfolding modify
+  modify-same i [] d h = absurd (omega arith)
+  modify-same zero (x ∷ xs) d h = refl
+  modify-same (suc i) (x ∷ xs) d h = modify-same i xs d (omega arith)
+
+  pub modify-other : (i j : ℕ) (xs : List A) (d : A) → j ≢ i → getD (modify f i xs) j d ≡ getD xs j d
+  unfolding modify
+  modify-other i j [] d h = refl
+  modify-other zero zero (x ∷ xs) d h = absurd (h refl)
+  modify-other zero (suc j) (x ∷ xs) d h = refl
+  modify-other (suc i) zero (x ∷ xs) d h = refl
+  modify-other (suc i) (suc j) (x ∷ xs) d h = modify-other i j xs d (λ e. h (ap suc e))
+
+  -- what the change leaves of each
+  pub modify-field : {B : Type 0} (g : A → B) → ((x : A) → g (f x) ≡ g x) → (i j : ℕ) (xs : List A) (d : A) → g (getD (modify f i xs) j d) ≡ g (getD xs j d)
+  unfolding modify
+  modify-field g h i j [] d = refl
+  modify-field g h zero zero (x ∷ xs) d = h x
+  modify-field g h zero (suc j) (x ∷ xs) d = refl
+  modify-field g h (suc i) zero (x ∷ xs) d = refl
+  modify-field g h (suc i) (suc j) (x ∷ xs) d = modify-field g h i j xs d
+
+  -- a test that the changed one passes
+  pub modify-tests : (test : A → Bool) (n i : ℕ) (xs : List A) (d : A) → every test (take n xs) ≡ true → (test (getD xs i d) ≡ true → test (f (getD xs i d)) ≡ true)
+      → every test (take n (modify f i xs)) ≡ true
+  unfolding modify every
+  modify-tests test zero i xs d e h = refl
+  modify-tests test (suc n) i [] d e h = refl
+  modify-tests test (suc n) zero (x ∷ xs) d e h = let p = both-hold (test x) (every test (take n xs)) e in both (h (p .0)) (p .1)
+  modify-tests test (suc n) (suc i) (x ∷ xs) d e h =
+      let p = both-hold (test x) (every test (take n xs)) e in
+      both (p .0) (modify-tests test n i xs d (p .1) h)

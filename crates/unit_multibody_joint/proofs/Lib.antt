@@ -1,0 +1,4 @@
+pub mod Parts
+pub mod Solved
+pub mod Answers
+pub mod Accepted

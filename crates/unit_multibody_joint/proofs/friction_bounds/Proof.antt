@@ -1,0 +1,16 @@
+-- `friction_bounds`: the definition, field by field. Assumes nothing.
+use mathlib.Core.Path.{refl}
+use borrow.Author.Needs.{needs}
+use Rattle.unit_multibody_joint.specs.Rows.{frictionBounds}
+use Rattle.unit_multibody_joint.proofs.friction_bounds.Statement.{statement}
+use Rattle.unit_multibody_joint.proofs.friction_bounds.Tie as tie
+use Rattle.unit_multibody_joint.proofs.friction_bounds.Reads as reads
+use Rattle.unit_multibody_joint.proofs.friction_bounds.Lts as lts
+
+-- src/lib.rt:104:1
+returns : tie.Need-returns
+unfolding frictionBounds
+returns c = refl
+
+pub friction-bounds-spec : {M : Type 1} → statement M
+friction-bounds-spec = tie.close (tie.spec returns)

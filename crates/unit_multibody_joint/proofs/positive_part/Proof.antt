@@ -1,0 +1,20 @@
+-- `positive_part`: each branch is its case of the definition. Assumes nothing.
+use borrow.Author.Needs.{needs}
+use Rattle.unit_multibody_joint.specs.Rows.{positive}
+use Rattle.unit_multibody_joint.proofs.positive_part.Statement.{statement}
+use Rattle.unit_multibody_joint.proofs.positive_part.Tie as tie
+use Rattle.unit_multibody_joint.proofs.positive_part.Reads as reads
+use Rattle.unit_multibody_joint.proofs.positive_part.Lts as lts
+
+-- src/lib.rt:70:1
+returns : tie.Need-returns
+unfolding positive
+returns c = simp (c .if1 .taken)
+
+-- src/lib.rt:70:1
+returns-2 : tie.Need-returns-2
+unfolding positive
+returns-2 c = simp (c .if1 .left)
+
+pub positive-part-spec : {M : Type 1} → statement M
+positive-part-spec = tie.close (tie.spec returns returns-2)

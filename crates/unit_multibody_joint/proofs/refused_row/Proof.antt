@@ -1,0 +1,16 @@
+-- `refused_row`: the definition, field by field. Assumes nothing.
+use mathlib.Core.Path.{refl}
+use borrow.Author.Needs.{needs}
+use Rattle.unit_multibody_joint.specs.Rows.{refusedRow}
+use Rattle.unit_multibody_joint.proofs.refused_row.Statement.{statement}
+use Rattle.unit_multibody_joint.proofs.refused_row.Tie as tie
+use Rattle.unit_multibody_joint.proofs.refused_row.Reads as reads
+use Rattle.unit_multibody_joint.proofs.refused_row.Lts as lts
+
+-- src/lib.rt:138:1
+returns : tie.Need-returns
+unfolding refusedRow
+returns c = refl
+
+pub refused-row-spec : {M : Type 1} → statement M
+refused-row-spec = tie.close (tie.spec returns)

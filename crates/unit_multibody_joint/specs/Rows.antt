@@ -1,0 +1,89 @@
+-- Constraint rows of one degree of freedom, by document 01's 'Constraint rows'.
+use Prim.Native.Nat.{ℕ, _*_}
+use mathlib.Core.Bool.{Bool, cond, _&&_}
+use mathlib.Core.List.{List}
+use lib.ListN.{take, getD, set, replicate}
+use lib.Ieee.{Float, nan, lt, eq, neg}
+use Rattle.refusal.specs.Refusal.{unlessOf}
+use Rattle.floats.specs.Floats.{f32, zero32, one32, plus, minus, times, over, isFinite}
+use Rattle.solve.specs.Solve.{solution}
+use Rattle.unit_multibody_joint.specs.declared.Limits.{Limits}
+use Rattle.unit_multibody_joint.specs.declared.Bounds.{Bounds}
+use Rattle.unit_multibody_joint.specs.declared.ConstraintRow.{ConstraintRow}
+use Rattle.unit_multibody_joint.specs.Outcome.{Outcome, orThen, answered}
+
+-- ---- bounds and right side
+
+-- the greatest finite float either way, and minus zero
+abbrev pub max32 : Float
+max32 = f32 0x7F7F_FFFF
+
+abbrev pub minusMax32 : Float
+minusMax32 = f32 0xFF7F_FFFF
+
+abbrev pub minusZero32 : Float
+minusZero32 = f32 0x8000_0000
+
+-- x, or +0 unless it is positive
+unfoldable pub positive : Float → Float
+positive x = cond (lt zero32 x) x zero32
+
+-- −MAX if pos < min, else −0
+unfoldable pub lowerBound : Float → Float → Float
+lowerBound pos min = cond (lt pos min) minusMax32 minusZero32
+
+-- MAX if max < pos, else +0
+unfoldable pub upperBound : Float → Float → Float
+upperBound pos max = cond (lt max pos) max32 zero32
+
+-- a limit: rhs = +0 + (p − m)·erp_inv_dt, where p is pos − max and m is min − pos, each +0 unless positive
+unfoldable pub limitBounds : Limits → Bounds
+limitBounds g =
+    let p = positive (minus (g .position) (g .max)) in
+    let m = positive (minus (g .min) (g .position)) in
+    record {
+      lower = lowerBound (g .position) (g .min);
+      upper = upperBound (g .position) (g .max);
+      rhs = plus zero32 (times (minus p m) (g .«erp_inv_dt»));
+    }
+
+-- friction: bounds ±friction·dt, rhs 0
+unfoldable pub frictionBounds : Float → Float → Bounds
+frictionBounds friction dt = record { lower = neg (times friction dt); upper = times friction dt; rhs = zero32 }
+
+-- ---- the row
+
+-- the reciprocal, and 0 of zero
+unfoldable pub inverse : Float → Float
+inverse x = cond (eq x zero32) zero32 (over one32 x)
+
+-- cfm_gain = lhs·cfm_coeff; inv_lhs is the inverse of lhs + cfm_gain
+unfoldable pub rowOf : Bounds → Float → Float → ConstraintRow
+rowOf b cfm lhs = record {
+  refusal = 0;
+  lower = b .lower;
+  upper = b .upper;
+  rhs = b .rhs;
+  «cfm_gain» = times lhs cfm;
+  «inv_lhs» = inverse (plus lhs (times lhs cfm));
+}
+
+-- refused: the number, and zeros
+unfoldable pub refusedRow : ℕ → ConstraintRow
+refusedRow k = record { refusal = k; lower = zero32; upper = zero32; rhs = zero32; «cfm_gain» = zero32; «inv_lhs» = zero32 }
+
+unfoldable pub finiteRow : ConstraintRow → Bool
+finiteRow r = isFinite (r .lower) && isFinite (r .upper) && isFinite (r .rhs) && isFinite (r .«cfm_gain») && isFinite (r .«inv_lhs»)
+
+-- ---- with J and WJ
+
+-- J: 1 at the DoF, zero elsewhere
+unfoldable pub unitRow : ℕ → ℕ → List Float
+unitRow n dof = set (replicate n zero32) dof one32
+
+-- WJ solves M·WJ = J, and lhs = WJ at the DoF. After the refusal k: the solve's own 11 or 12, then 12 if a result isn't finite
+unfoldable pub rowAnswer : ℕ → ℕ → ℕ → Bounds → Float → List Float → List Float → List Float → Outcome ConstraintRow
+rowAnswer k n dof b cfm mass j wj =
+    let o = solution n (take (n * n) mass) (unitRow n dof) in
+    let r = rowOf b cfm (getD (o .result) dof nan) in
+    answered (orThen k (orThen (o .refusal) (unlessOf (finiteRow r) 12))) refusedRow r (unitRow n dof) (o .result) j wj
