@@ -1,2 +1,3 @@
 pub mod NewLink
 pub mod Addition
+pub mod Promise

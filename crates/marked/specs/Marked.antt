@@ -9,6 +9,9 @@ use Rattle.topology.specs.declared.Split.the-variants.{Delete, Cut}
 use Rattle.topology.specs.Answers.{splitAnswer}
 use Rattle.masks.specs.Masks.{dofsOf}
 use Rattle.masks.specs.Answers.{startsAnswer, dampingAnswer, constraintsAnswer}
+use Rattle.floats.specs.Floats.{f32, zero32}
+use Rattle.unit_multibody_joint.specs.declared.Limits.{Limits}
+use Rattle.unit_multibody_joint.specs.Rows.{limitBounds}
 
 pub data Question : Type 0 where
   -- a split of a list of parents
@@ -19,8 +22,15 @@ pub data Question : Type 0 where
   damping : ℕ → Question
   -- the constraint count of locked, limit and motor masks
   constraints : ℕ → ℕ → ℕ → Question
+  -- the limit row of min, max, pos and erp_inv_dt, floats by their bits
+  limit : ℕ → ℕ → ℕ → ℕ → Question
 
--- the answer as numbers: the refusal, the count if there is one, then what lent memory of just the needed length holds; a float by its bits
+-- what is given of a limit; neither dt nor cfm_coeff tells in its bounds and its right side
+abbrev pub limitsOf : ℕ → ℕ → ℕ → ℕ → Limits
+limitsOf min max pos erp = record { position = f32 pos; min = f32 min; max = f32 max; dt = zero32; «erp_inv_dt» = f32 erp; «cfm_coeff» = zero32 }
+
+-- the answer as numbers: the refusal, the count if there is one, then what lent memory of just the needed length holds; of a limit row both bounds and the
+-- rhs; a float by its bits
 unfoldable pub answer : Question → List ℕ
 answer (split parents s) =
     let o = splitAnswer parents s (replicate (2 * length parents) 0) in
@@ -34,6 +44,9 @@ answer (damping mask) =
 answer (constraints locked limit motor) =
     let a = constraintsAnswer locked limit motor in
     a .refusal ∷ a .count ∷ []
+answer (limit min max pos erp) =
+    let b = limitBounds (limitsOf min max pos erp) in
+    map (toBits binary32) (b .lower ∷ b .upper ∷ b .rhs ∷ [])
 
 -- the parents of P1 to P5
 abbrev pub A : List ℕ
@@ -46,7 +59,7 @@ link part number = part ∷ number ∷ []
 abbrev pub gone : List ℕ
 gone = link 255 255
 
--- P1 to P9
+-- P1 to P11
 abbrev pub marked : List (Question × List ℕ)
 marked =
     (split A (Delete 1), 0 ∷ 3 ∷ link 0 0 ++ gone ++ link 1 0 ++ link 2 0 ++ link 0 1 ++ link 2 1)
@@ -58,6 +71,8 @@ marked =
     ∷ (starts (7 ∷ 3 ∷ 3 ∷ 0 ∷ []), 0 ∷ 5 ∷ 0 ∷ 0 ∷ 1 ∷ 2 ∷ [])
     ∷ (damping 0, 0 ∷ 3 ∷ 0 ∷ 0 ∷ 0x3DCC_CCCD ∷ [])
     ∷ (constraints 3 7 4, 0 ∷ 2 ∷ [])
+    ∷ (limit 0 0x3F80_0000 0x4000_0000 0x4120_0000, 0x8000_0000 ∷ 0x7F7F_FFFF ∷ 0x4120_0000 ∷ [])
+    ∷ (limit 0 0x3F80_0000 0x3F80_0000 0x4120_0000, 0x8000_0000 ∷ 0 ∷ 0 ∷ [])
     ∷ []
 
 -- each question of a table has its answer

@@ -18,7 +18,6 @@ use Rattle.floats.specs.Floats.{allFinite}
 use Rattle.topology.specs.Above.{AtOrAbove, itself, above}
 use Rattle.topology.specs.Parents.{parentsFit, marks}
 use Rattle.topology.specs.Parents as by-list
-use Rattle.topology.proofs.Fitting.{earlier, root}
 use Rattle.topology.proofs.Theorems.{marks-right}
 use Rattle.arm.specs.declared.Link.{Link}
 use Rattle.arm.specs.declared.Row.{Row}
@@ -28,7 +27,6 @@ use Rattle.arm.specs.Arm as of-arm
 use Rattle.arm.specs.Edits.{modify, withLinks}
 use Rattle.arm.specs.HandedIn.{every, unique, tagsUnique, parentsEarlier, linkMasksFit, rootMaskFits, rootFits, linkFinite, rowsFinite, linkAngleFits, armRefusal}
 use Rattle.arm.proofs.Accepted.{both-hold}
-use Rattle.arm.proofs.Live.{links-live}
 use Rattle.kinematics.specs.Blocks.{blockAt}
 use Rattle.kinematics.specs.Link.{Kept, Inputs, finiteKept}
 use Rattle.kinematics.specs.State.{State, state, noLink, linkAt, parentOf, lockedOf, inputsOf, keptAt, keptOps, marked, resultOf}
@@ -42,6 +40,7 @@ use Rattle.settled.specs.Promise.{Sized, Right}
 use Rattle.settled.proofs.Lowest.{none-of, holds}
 use Rattle.settled.proofs.Accepted.{Accepted}
 use Rattle.settled.proofs.Lists.{same-map, same-front, same-tests}
+use Rattle.settled.proofs.Parents.{parents-count, parent-of, parent-le}
 use Rattle.settled.proofs.Modified.{length-modify, modify-same, modify-other, modify-field, modify-tests}
 use Rattle.settled.proofs.Settles.{allFine, Facts, facts}
 use Rattle.settled.proofs.Sticky.{rotations-finite}
@@ -50,7 +49,6 @@ use Rattle.one_link_move.specs.declared.Change.{Change}
 use Rattle.one_link_move.specs.Change.{changed, movedInputs}
 use Rattle.one_link_move.specs.Move.{axisFits, axisFree, changeFinite, turnsFit, angleWithin, moveRefusal, linkMoved}
 use Rattle.one_link_move.specs.Promise.{AtOrBelow, MoveRight}
-use Rattle.one_link_move.proofs.Sets.{parent-there}
 use Rattle.one_link_move.proofs.Changed.{same-tag, same-parent, same-locked, same-masks, resultsOf, same-results, still-finite, still-within}
 
 -- what a move that is not refused passed
@@ -90,26 +88,17 @@ module _ (a : Arm) (t : List Float) (sized : Sized a) (settled : Settled a t) (l
   abbrev b : ℕ → Bool
   b = marked (marks (parentsOf a) link)
 
-  live : liveLinks a ≡ n
-  live = omega (arith, facts-of .few)
-
   same-length : length ls′ ≡ length ls
   same-length = length-modify (changed change) link ls
 
   -- ---- parents
 
   parents-length : length (parentsOf a) ≡ n
-  unfolding parentsOf
-  parents-length = length-map (linksOf a) of-arm.parentOf ∙ links-live a (sized .links) ∙ live
+  parents-length = parents-count a (sized .links) (facts-of .few)
 
   fit : parentsFit (parentsOf a) ≡ true
   unfolding parentsEarlier
   fit = facts-of .ok .parents
-
-  -- as the pass has it and as the list of parents has it
-  parent-of : (j : ℕ) → j < n → parentOf ls j ≡ by-list.parentOf (parentsOf a) j
-  unfolding parentOf
-  parent-of j h = parent-there a (sized .links) j noLink (omega (arith, live))
 
   parent-after : (j : ℕ) → parentOf ls′ j ≡ parentOf ls j
   unfolding parentOf
@@ -125,26 +114,20 @@ module _ (a : Arm) (t : List Float) (sized : Sized a) (settled : Settled a t) (l
 
   closed : (j : ℕ) → j < n → parentOf ls′ j < j → b (parentOf ls′ j) ≡ true → b j ≡ true
   closed j h q e =
-      let p : parentOf ls′ j ≡ by-list.parentOf (parentsOf a) j = parent-after j ∙ parent-of j h in
+      let p : parentOf ls′ j ≡ by-list.parentOf (parentsOf a) j = parent-after j ∙ parent-of a (sized .links) (facts-of .few) j h in
       mark-of j h (above (omega arith) (of-mark (by-list.parentOf (parentsOf a) j) (omega arith) (subst (λ (i : ℕ). b i ≡ true) p e)))
 
   not-link : (j : ℕ) → j < n → b j ≡ false → j ≢ link
   not-link j h e q = differ (sym (subst (λ (i : ℕ). b i ≡ true) (sym q) (mark-of link (k .there) itself)) ∙ e)
-
-  -- a link whose parent isn't earlier is the root, its own parent
-  own-parent : (j : ℕ) → j < n → (parentOf ls j < j → ⊥) → parentOf ls j ≡ j
-  own-parent zero h l = parent-of 0 h ∙ root (parentsOf a) fit (omega (arith, parents-length))
-  own-parent (suc j) h l =
-      let e : by-list.parentOf (parentsOf a) (suc j) < suc j = earlier (parentsOf a) fit (suc j) (omega arith) (omega (arith, parents-length)) in
-      let p : parentOf ls (suc j) ≡ by-list.parentOf (parentsOf a) (suc j) = parent-of (suc j) h in
-      absurd (l (omega arith))
 
   not-child : (j : ℕ) → j < n → b j ≡ false → parentOf ls j ≢ link
   not-child j h e q = elim (decLt (parentOf ls j) j) [
     | yes l ↦
         let l′ : parentOf ls′ j < j = omega (arith, parent-after j) in
         differ (sym (closed j h l′ (subst (λ (i : ℕ). b i ≡ true) (sym (parent-after j ∙ q)) (mark-of link (k .there) itself))) ∙ e)
-    | no l ↦ not-link j h e (sym (own-parent j h (λ z. omega arith)) ∙ q)
+    | no l ↦
+        let own : parentOf ls j ≡ j = omega (arith, parent-le a (sized .links) (facts-of .few) (facts-of .ok .parents) j h) in
+        not-link j h e (sym own ∙ q)
   ]
 
   -- ---- unmarked links keep their inputs, and all their results

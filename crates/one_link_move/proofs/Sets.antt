@@ -1,43 +1,22 @@
--- What a move reads and sets, case by case as the code does. Assumes nothing.
+-- What a move sets, case by case as the code does. Assumes nothing.
 use Prim.Native.Nat.{ℕ, zero, suc, _≤_, _<_}
 use mathlib.Core.Path.{_≡_, refl, sym, ap, _∙_}
 use mathlib.Core.Bool.{Bool, true, false}
 use mathlib.Core.List.{List, [], _∷_}
 use native.Mathlib.Omega.{arith}
 use borrow.Author.Tests.{lt-ltb, le-ltb, eq-eqb, ne-eqb}
-use lib.ListN.{length, getD, set, take, length-map, List·getD-eq-default}
-use lib.Seq.{getD-take, length-take-le}
+use lib.ListN.{length, getD, set}
 use lib.Ieee.{Float}
-use Rattle.limits.specs.Limits.{linkLimit}
 use Rattle.planar.specs.declared.Rotation.{Rotation}
 use Rattle.planar.specs.Rotation.{rotationAt}
 use Rattle.multibody_joint.specs.declared.Joint.{Joint}
 use Rattle.multibody_joint.specs.Joint.{withMotion}
 use Rattle.arm.specs.declared.Link.{Link}
 use Rattle.arm.specs.declared.Arm.{Arm}
-use Rattle.arm.specs.Arm.{liveLinks, linksOf, parentsOf}
-use Rattle.arm.specs.Arm as arm-words
 use Rattle.arm.specs.Edits.{modify, withLinks}
-use Rattle.arm.proofs.Lists.{map-at}
-use Rattle.arm.proofs.Live.{links-live}
 use Rattle.arm.proofs.Edits.{set-modify}
-use Rattle.topology.specs.Parents.{parentOf}
 use Rattle.one_link_move.specs.declared.Change.{Change}
 use Rattle.one_link_move.specs.Change.{coordinateSet, changed, movedInputs}
-
--- ---- the parent of a link that counts, and of one that does not
-
-module _ (a : Arm) (whole : length (a .links) ≡ linkLimit) (link : ℕ) where
-  pub parent-there : (d : Link) → link < liveLinks a → getD (a .links) link d .parent ≡ parentOf (parentsOf a) link
-  unfolding parentsOf linksOf
-  parent-there d h =
-      sym
-      (map-at arm-words.parentOf (take (liveLinks a) (a .links)) link d 0 (omega (arith, length-take-le (liveLinks a) (a .links) (omega arith)))
-      ∙ ap arm-words.parentOf (getD-take (liveLinks a) (a .links) link d h))
-
-  pub parent-past : liveLinks a ≤ link → 0 ≡ parentOf (parentsOf a) link
-  unfolding parentsOf
-  parent-past h = sym (List·getD-eq-default (parentsOf a) 0 (omega (arith, length-map (linksOf a) arm-words.parentOf, links-live a whole)))
 
 -- ---- a coordinate
 

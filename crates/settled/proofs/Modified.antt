@@ -6,6 +6,7 @@ use mathlib.Core.Bool.{Bool, true, _&&_}
 use mathlib.Core.List.{List, [], _∷_, map}
 use native.Mathlib.Omega.{arith}
 use lib.ListN.{length, take, getD}
+use lib.Seq.{take-all}
 use Rattle.arm.specs.Edits.{modify}
 use Rattle.arm.specs.HandedIn.{every}
 use Rattle.arm.proofs.Accepted.{both-hold}
@@ -51,3 +52,9 @@ module _ {A : Type 0} (f : A → A) where
   modify-tests test (suc n) (suc i) (x ∷ xs) d e h =
       let p = both-hold (test x) (every test (take n xs)) e in
       both (p .0) (modify-tests test n i xs d (p .1) h)
+
+  pub modify-every : (test : A → Bool) (i : ℕ) (xs : List A) (d : A) → every test xs ≡ true → (test (getD xs i d) ≡ true → test (f (getD xs i d)) ≡ true)
+      → every test (modify f i xs) ≡ true
+  modify-every test i xs d e h =
+      ap (every test) (sym (take-all (length xs) (modify f i xs) (omega (arith, length-modify i xs))))
+      ∙ modify-tests test (length xs) i xs d (ap (every test) (take-all (length xs) xs (omega arith)) ∙ e) h

@@ -1,6 +1,6 @@
 use native.Mathlib.Omega.{arith}
 use Rattle.arm.proofs.Shape.{links-length}
-use Rattle.one_link_move.proofs.Sets.{parent-there, parent-past}
+use Rattle.settled.proofs.Parents.{parent-there, parent-past}
 use borrow.Author.Needs.{needs}
 use Rattle.one_link_move.proofs.parent_at.Statement.{statement}
 use Rattle.one_link_move.proofs.parent_at.Tie as tie

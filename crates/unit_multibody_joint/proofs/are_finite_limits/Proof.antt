@@ -3,35 +3,25 @@ use borrow.Author.Needs.{needs}
 use Rattle.unit_multibody_joint.specs.Refusals.{limitsFinite}
 use Rattle.unit_multibody_joint.proofs.are_finite_limits.Statement.{statement}
 use Rattle.unit_multibody_joint.proofs.are_finite_limits.Tie as tie
-use Rattle.unit_multibody_joint.proofs.are_finite_limits.Reads as reads
-use Rattle.unit_multibody_joint.proofs.are_finite_limits.Lts as lts
-use Rattle.floats.proofs.finite.Reads as finite-reads
 
--- src/lib.rt:206:5
 finite-requires : tie.Need-finite-requires
 finite-requires c κs = search needs
 
--- src/lib.rt:207:11
 finite-requires-2 : tie.Need-finite-requires-2
 finite-requires-2 c κs = search needs
 
--- src/lib.rt:208:11
 finite-requires-3 : tie.Need-finite-requires-3
 finite-requires-3 c κs = search needs
 
--- src/lib.rt:209:11
 finite-requires-4 : tie.Need-finite-requires-4
 finite-requires-4 c κs = search needs
 
--- src/lib.rt:210:11
 finite-requires-5 : tie.Need-finite-requires-5
 finite-requires-5 c κs = search needs
 
--- src/lib.rt:211:11
 finite-requires-6 : tie.Need-finite-requires-6
 finite-requires-6 c κs = search needs
 
--- src/lib.rt:203:1
 returns : tie.Need-returns
 unfolding limitsFinite
 returns c = cc

@@ -1,3 +1,4 @@
+-- `friction_at`: the row's entries up to the DoF count, at the DoF; an axis as a byte has the same DoF. Assumes nothing.
 use Rattle.unit_multibody_joint.proofs.Parts.{friction-is}
 use mathlib.Core.Path.{_∙_}
 use native.Mathlib.Omega.{arith}

@@ -4,10 +4,7 @@ use borrow.Author.Needs.{needs}
 use Rattle.unit_multibody_joint.specs.Rows.{frictionBounds}
 use Rattle.unit_multibody_joint.proofs.friction_bounds.Statement.{statement}
 use Rattle.unit_multibody_joint.proofs.friction_bounds.Tie as tie
-use Rattle.unit_multibody_joint.proofs.friction_bounds.Reads as reads
-use Rattle.unit_multibody_joint.proofs.friction_bounds.Lts as lts
 
--- src/lib.rt:104:1
 returns : tie.Need-returns
 unfolding frictionBounds
 returns c = refl

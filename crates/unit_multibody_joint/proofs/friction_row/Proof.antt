@@ -1,3 +1,4 @@
+-- `friction_row`: a refusal ends it; else the tests tell that all fits, and `constrain` gives the row. Assumes nothing.
 use Rattle.unit_multibody_joint.proofs.Accepted.{row-ready}
 use Rattle.unit_multibody_joint.proofs.Answers.{row-on, row-refused}
 use Rattle.unit_multibody_joint.proofs.Parts.{dof-byte}
@@ -12,64 +13,42 @@ use Rattle.arm.specs.Edits.{dofAt}
 use borrow.Author.Needs.{needs}
 use Rattle.unit_multibody_joint.proofs.friction_row.Statement.{statement}
 use Rattle.unit_multibody_joint.proofs.friction_row.Tie as tie
-use Rattle.unit_multibody_joint.proofs.friction_row.Reads as reads
-use Rattle.unit_multibody_joint.proofs.friction_row.Lts as lts
-use Rattle.arm.proofs.dof_at.Reads as dof-at-reads
-use Rattle.arm.proofs.dof_count.Reads as dof-count-reads
-use Rattle.unit_multibody_joint.proofs.axis_byte.Reads as axis-byte-reads
-use Rattle.unit_multibody_joint.proofs.constrain.Reads as constrain-reads
-use Rattle.unit_multibody_joint.proofs.friction_at.Reads as friction-at-reads
-use Rattle.unit_multibody_joint.proofs.friction_bounds.Reads as friction-bounds-reads
-use Rattle.unit_multibody_joint.proofs.friction_refusal.Reads as friction-refusal-reads
-use Rattle.unit_multibody_joint.proofs.refused_row.Reads as refused-row-reads
 
--- src/lib.rt:345:9
 friction-refusal-requires : tie.Need-friction-refusal-requires
 friction-refusal-requires c κs = search needs
 
--- src/lib.rt:347:9
 refused-row-requires : tie.Need-refused-row-requires
 refused-row-requires c κs = search needs
 
--- src/lib.rt:347:9
 returns : tie.Need-returns
 unfolding frictionAnswer
 returns c = row-refused _ _ _ _ _ _ _ _ (c .before .before .friction-refusal .result) (c .refused-row .result) (c .before .before .friction-refusal .ensures) (c .before .if1 .taken) (c .refused-row .ensures)
 
--- src/lib.rt:349:9
 dof-count-requires : tie.Need-dof-count-requires
 dof-count-requires c κs = search needs
 
--- src/lib.rt:350:41
 axis-byte-requires : tie.Need-axis-byte-requires
 axis-byte-requires c κs = search needs
 
--- src/lib.rt:350:9
 dof-at-requires : tie.Need-dof-at-requires
 dof-at-requires c κs = search needs
 
--- src/lib.rt:351:34
 friction-at-requires : tie.Need-friction-at-requires
 friction-at-requires c κs = search needs
 
--- src/lib.rt:351:9
 friction-bounds-requires : tie.Need-friction-bounds-requires
 friction-bounds-requires c κs = search needs
 
--- src/lib.rt:352:5
 constrain-requires : tie.Need-constrain-requires
 unfolding frictionRefusal
 constrain-requires c κs = row-ready (c .before .before .before .before .before .before .before .before .before .before .before .before .args .arm) (c .before .before .before .before .before .before .before .before .before .before .before .before .args .link) (c .before .before .before .before .before .before .before .before .before .before .before .before .args .axis) _ _ (c .before .before .before .before .before .before .before .before .before .before .before .before .args .mass .now) _ _ (sym (c .before .before .before .before .before .before .before .before .friction-refusal .ensures) ∙ c .before .before .before .before .before .before .before .if1 .left) (c .before .before .before .before .before .before .dof-count .result) (c .before .before .before .before .before .axis-byte .result) (c .before .before .before .before .dof-at .result) (c .before .before .before .before .before .before .dof-count .ensures) (c .before .before .before .before .before .axis-byte .ensures) (c .before .before .before .before .dof-at .ensures) (links-length (c .before .before .before .before .before .before .before .before .before .before .before .before .args .arm) (c .before .before .before .before .before .before .before .before .before .before .before .before .good .0))
 
--- src/lib.rt:333:1
 same-length : tie.Need-same-length
 same-length c = search needs
 
--- src/lib.rt:333:1
 same-length-2 : tie.Need-same-length-2
 same-length-2 c = search needs
 
--- src/lib.rt:333:1
 returns-2 : tie.Need-returns-2
 unfolding frictionAnswer
 returns-2 c = row-on _ (c .before .before .before .before .before .before .before .before .before .before .before .before .before .friction-refusal .result) _ _ _ _ _ _ _ _ _ _ _ (c .before .before .before .before .before .before .before .before .before .before .before .before .before .friction-refusal .ensures) (c .before .before .before .before .before .before .before .before .before .before .before .before .if1 .left) (c .before .before .before .before .before .before .before .before .before .before .before .dof-count .ensures) (c .before .before .before .before .before .before .before .before .before .dof-at .ensures ∙ dof-byte (c .before .before .before .before .before .before .before .before .before .before .before .before .before .before .before .before .before .args .arm) (c .before .before .before .before .before .before .before .before .before .before .before .before .before .before .before .before .before .args .link) (c .before .before .before .before .before .before .before .before .before .before .before .before .before .before .before .before .before .args .axis) (c .before .before .before .before .before .before .before .before .before .before .axis-byte .result) (c .before .before .before .before .before .before .before .before .before .before .axis-byte .ensures)) (c .before .before .before .before .before .before .before .friction-bounds .ensures ∙ ap (λ (f : Float). frictionBounds f (c .before .before .before .before .before .before .before .before .before .before .before .before .before .before .before .before .before .args .dt)) (c .before .before .before .before .before .before .before .before .friction-at .ensures)) (c .before .before .before .before .constrain .ensures)

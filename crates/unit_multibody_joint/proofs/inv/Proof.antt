@@ -3,15 +3,11 @@ use borrow.Author.Needs.{needs}
 use Rattle.unit_multibody_joint.specs.Rows.{inverse}
 use Rattle.unit_multibody_joint.proofs.inv.Statement.{statement}
 use Rattle.unit_multibody_joint.proofs.inv.Tie as tie
-use Rattle.unit_multibody_joint.proofs.inv.Reads as reads
-use Rattle.unit_multibody_joint.proofs.inv.Lts as lts
 
--- src/lib.rt:118:1
 returns : tie.Need-returns
 unfolding inverse
 returns c = simp (c .if1 .taken)
 
--- src/lib.rt:118:1
 returns-2 : tie.Need-returns-2
 unfolding inverse
 returns-2 c = simp (c .if1 .left)

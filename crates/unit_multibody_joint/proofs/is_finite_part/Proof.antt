@@ -1,51 +1,38 @@
+-- `is_finite_part`: a part cut to what is there is the part. Assumes nothing.
 use Rattle.floats.specs.Floats.{allFinite}
 use Rattle.unit_multibody_joint.proofs.Parts.{cut}
 use mathlib.Core.Path.{_∙_, ap}
 use borrow.Author.Needs.{needs}
 use Rattle.unit_multibody_joint.proofs.is_finite_part.Statement.{statement}
 use Rattle.unit_multibody_joint.proofs.is_finite_part.Tie as tie
-use Rattle.unit_multibody_joint.proofs.is_finite_part.Reads as reads
-use Rattle.unit_multibody_joint.proofs.is_finite_part.Lts as lts
-use Rattle.floats.proofs.all_finite.Reads as all-finite-reads
-use Rattle.unit_multibody_joint.proofs.fewer.Reads as fewer-reads
 
--- src/lib.rt:198:9
 fewer-requires : tie.Need-fewer-requires
 fewer-requires c κs = search needs
 
--- src/lib.rt:199:32
 sub-fewer : tie.Need-sub-fewer
 sub-fewer c = search needs
 
--- src/lib.rt:199:23
 fewer-requires-2 : tie.Need-fewer-requires-2
 fewer-requires-2 c κs = search needs
 
--- src/lib.rt:199:15
 add-end : tie.Need-add-end
 add-end c = search needs
 
--- src/lib.rt:200:16
 mul-all-finite : tie.Need-mul-all-finite
 mul-all-finite c = search needs
 
--- src/lib.rt:200:16
 sub-all-finite : tie.Need-sub-all-finite
 sub-all-finite c = search needs
 
--- src/lib.rt:200:16
 part-all-finite-start : tie.Need-part-all-finite-start
 part-all-finite-start c = search needs
 
--- src/lib.rt:200:16
 part-all-finite-end : tie.Need-part-all-finite-end
 part-all-finite-end c = search needs
 
--- src/lib.rt:200:5
 all-finite-requires : tie.Need-all-finite-requires
 all-finite-requires c κs = search needs
 
--- src/lib.rt:195:1
 returns : tie.Need-returns
 returns c = c .all-finite .ensures ∙ ap allFinite (cut (c .before .before .before .before .before .args .at) (c .before .before .before .before .before .args .n) (c .before .before .before .fewer .result) (c .before .before .fewer2 .result) (c .before .before .before .before .before .args .s .now) (c .before .before .before .fewer .ensures) (c .before .before .fewer2 .ensures))
 

@@ -3,31 +3,22 @@ use borrow.Author.Needs.{needs}
 use Rattle.unit_multibody_joint.specs.Rows.{finiteRow}
 use Rattle.unit_multibody_joint.proofs.is_finite_row.Statement.{statement}
 use Rattle.unit_multibody_joint.proofs.is_finite_row.Tie as tie
-use Rattle.unit_multibody_joint.proofs.is_finite_row.Reads as reads
-use Rattle.unit_multibody_joint.proofs.is_finite_row.Lts as lts
-use Rattle.floats.proofs.finite.Reads as finite-reads
 
--- src/lib.rt:154:5
 finite-requires : tie.Need-finite-requires
 finite-requires c κs = search needs
 
--- src/lib.rt:154:23
 finite-requires-2 : tie.Need-finite-requires-2
 finite-requires-2 c κs = search needs
 
--- src/lib.rt:154:41
 finite-requires-3 : tie.Need-finite-requires-3
 finite-requires-3 c κs = search needs
 
--- src/lib.rt:154:57
 finite-requires-4 : tie.Need-finite-requires-4
 finite-requires-4 c κs = search needs
 
--- src/lib.rt:154:78
 finite-requires-5 : tie.Need-finite-requires-5
 finite-requires-5 c κs = search needs
 
--- src/lib.rt:151:1
 returns : tie.Need-returns
 unfolding finiteRow
 returns c = cc

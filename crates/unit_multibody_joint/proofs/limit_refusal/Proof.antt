@@ -3,20 +3,13 @@ use borrow.Author.Needs.{needs}
 use Rattle.unit_multibody_joint.specs.Refusals.{limitRefusal}
 use Rattle.unit_multibody_joint.proofs.limit_refusal.Statement.{statement}
 use Rattle.unit_multibody_joint.proofs.limit_refusal.Tie as tie
-use Rattle.unit_multibody_joint.proofs.limit_refusal.Reads as reads
-use Rattle.unit_multibody_joint.proofs.limit_refusal.Lts as lts
-use Rattle.unit_multibody_joint.proofs.are_finite_limits.Reads as are-finite-limits-reads
-use Rattle.unit_multibody_joint.proofs.row_refusal.Reads as row-refusal-reads
 
--- src/lib.rt:272:9
 are-finite-limits-requires : tie.Need-are-finite-limits-requires
 are-finite-limits-requires c κs = search needs
 
--- src/lib.rt:268:5
 row-refusal-requires : tie.Need-row-refusal-requires
 row-refusal-requires c κs = search needs
 
--- src/lib.rt:256:1
 returns : tie.Need-returns
 unfolding limitRefusal
 returns c = cc

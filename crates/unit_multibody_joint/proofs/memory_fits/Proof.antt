@@ -1,3 +1,4 @@
+-- `memory_fits`: the definition, test by test. Assumes nothing.
 use borrow.Author.Needs.{needs}
 use Rattle.unit_multibody_joint.proofs.memory_fits.Statement.{statement}
 use Rattle.unit_multibody_joint.proofs.memory_fits.Tie as tie

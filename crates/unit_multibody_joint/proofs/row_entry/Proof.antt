@@ -1,3 +1,4 @@
+-- `row_entry`: a row is long enough for its first n entries. Assumes nothing.
 use native.Mathlib.Nat.{sub-zero}
 use native.Mathlib.Omega.{arith}
 use Rattle.arm.proofs.Shape.{row-length}

@@ -3,15 +3,10 @@ use borrow.Author.Needs.{needs}
 use Rattle.unit_multibody_joint.specs.Rows.{rowOf}
 use Rattle.unit_multibody_joint.proofs.row_of.Statement.{statement}
 use Rattle.unit_multibody_joint.proofs.row_of.Tie as tie
-use Rattle.unit_multibody_joint.proofs.row_of.Reads as reads
-use Rattle.unit_multibody_joint.proofs.row_of.Lts as lts
-use Rattle.unit_multibody_joint.proofs.inv.Reads as inv-reads
 
--- src/lib.rt:134:18
 inv-requires : tie.Need-inv-requires
 inv-requires c κs = search needs
 
--- src/lib.rt:124:1
 returns : tie.Need-returns
 unfolding rowOf
 returns c = cc

@@ -1,3 +1,4 @@
+-- `row_refusal`: the definition, test by test; an axis as a byte is as free. Assumes nothing.
 use Rattle.unit_multibody_joint.proofs.Parts.{free-byte}
 use Rattle.unit_multibody_joint.specs.Refusals.{rowRefusal}
 use Prim.Native.Nat.{_≤_}

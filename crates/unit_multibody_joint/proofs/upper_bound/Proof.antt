@@ -3,15 +3,11 @@ use borrow.Author.Needs.{needs}
 use Rattle.unit_multibody_joint.specs.Rows.{upperBound}
 use Rattle.unit_multibody_joint.proofs.upper_bound.Statement.{statement}
 use Rattle.unit_multibody_joint.proofs.upper_bound.Tie as tie
-use Rattle.unit_multibody_joint.proofs.upper_bound.Reads as reads
-use Rattle.unit_multibody_joint.proofs.upper_bound.Lts as lts
 
--- src/lib.rt:86:1
 returns : tie.Need-returns
 unfolding upperBound
 returns c = simp (c .if1 .taken)
 
--- src/lib.rt:86:1
 returns-2 : tie.Need-returns-2
 unfolding upperBound
 returns-2 c = simp (c .if1 .left)

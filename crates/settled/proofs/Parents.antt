@@ -1,0 +1,51 @@
+-- The parent of a link, in the array and in the list of parents; of an accepted arm it is no later than its link. Assumes nothing.
+use Prim.Native.Nat.{ℕ, zero, suc, _≤_, _<_}
+use mathlib.Core.Path.{_≡_, sym, ap, _∙_}
+use mathlib.Core.Bool.{true}
+use mathlib.Core.List.{List}
+use native.Mathlib.Omega.{arith}
+use lib.ListN.{length, take, getD, length-map, List·getD-eq-default}
+use lib.Seq.{getD-take, length-take-le}
+use Rattle.limits.specs.Limits.{linkLimit}
+use Rattle.topology.specs.Parents.{parentsFit}
+use Rattle.topology.specs.Parents as by-list
+use Rattle.topology.proofs.Fitting.{earlier, root}
+use Rattle.arm.specs.declared.Link.{Link}
+use Rattle.arm.specs.declared.Arm.{Arm}
+use Rattle.arm.specs.Arm.{liveLinks, linksOf, parentsOf}
+use Rattle.arm.specs.Arm as of-arm
+use Rattle.arm.specs.HandedIn.{parentsEarlier}
+use Rattle.arm.proofs.Lists.{map-at}
+use Rattle.arm.proofs.Live.{links-live}
+use Rattle.kinematics.specs.State.{noLink, parentOf}
+
+module _ (a : Arm) (whole : length (a .links) ≡ linkLimit) where
+  -- a link that counts, and one that does not
+  pub parent-there : (link : ℕ) (d : Link) → link < liveLinks a → getD (a .links) link d .parent ≡ by-list.parentOf (parentsOf a) link
+  unfolding parentsOf linksOf
+  parent-there link d h =
+      sym
+      (map-at of-arm.parentOf (take (liveLinks a) (a .links)) link d 0 (omega (arith, length-take-le (liveLinks a) (a .links) (omega arith)))
+      ∙ ap of-arm.parentOf (getD-take (liveLinks a) (a .links) link d h))
+
+  pub parent-past : (link : ℕ) → liveLinks a ≤ link → 0 ≡ by-list.parentOf (parentsOf a) link
+  unfolding parentsOf
+  parent-past link h = sym (List·getD-eq-default (parentsOf a) 0 (omega (arith, length-map (linksOf a) of-arm.parentOf, links-live a whole)))
+
+  module _ (few : a .«link_count» ≤ linkLimit) where
+    pub live : liveLinks a ≡ a .«link_count»
+    live = omega arith
+
+    pub parents-count : length (parentsOf a) ≡ a .«link_count»
+    unfolding parentsOf
+    parents-count = length-map (linksOf a) of-arm.parentOf ∙ links-live a whole ∙ live
+
+    -- as the pass has it
+    pub parent-of : (j : ℕ) → j < a .«link_count» → parentOf (a .links) j ≡ by-list.parentOf (parentsOf a) j
+    unfolding parentOf
+    parent-of j h = parent-there j noLink (omega (arith, live))
+
+    pub parent-le : parentsEarlier a ≡ true → (j : ℕ) → j < a .«link_count» → parentOf (a .links) j ≤ j
+    unfolding parentsEarlier
+    parent-le ok zero h = omega (arith, parent-of 0 h, root (parentsOf a) ok (omega (arith, parents-count)))
+    parent-le ok (suc j) h = omega (arith, parent-of (suc j) h, earlier (parentsOf a) ok (suc j) (omega arith) (omega (arith, parents-count)))
