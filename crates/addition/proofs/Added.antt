@@ -1,22 +1,20 @@
 -- An arm with a new link that is not refused is accepted: each test is that of the arm, and of the new link. Assumes nothing.
 use Prim.Native.Nat.{ℕ, zero, suc, min, _+_, _≤_, _<_}
-use mathlib.Core.Path.{_≡_, refl, sym, ap, ap₂, subst, _∙_}
-use mathlib.Core.Logic.{_≢_}
-use mathlib.Core.Bool.{Bool, true, false, not, cond, _&&_, _||_}
+use mathlib.Core.Path.{_≡_, refl, sym, ap, ap₂, _∙_}
+use mathlib.Core.Bool.{Bool, true, not, _&&_, _||_}
 use mathlib.Core.List.{List, [], _∷_, _++_, map, map-append}
 use native.Mathlib.Omega.{arith}
 use native.Mathlib.Numerals.{add-one}
-use native.Mathlib.Decide.{decLt}
-use borrow.Author.Tests.{ltb-true, lt-ltb, eqb-true, eqb-false, ne-eqb, leb-true, le-leb, not-true}
+use borrow.Author.Tests.{ltb-true, lt-ltb, eqb-false, ne-eqb, le-leb, not-true}
 use lib.Dec.{eqb, ltb, leb}
-use lib.ListN.{length, take, drop, getD, set, length-set, length-map, length-append, length-replicate, length-drop, List·getD-append, List·getD-map, replicate}
-use lib.Seq.{getD-set-other, take-suc-set, take-set-le, getD-at, length-take-le}
+use lib.ListN.{length, take, drop, getD, set, length-map, length-append, length-replicate, length-drop, List·getD-append}
+use lib.Seq.{take-suc-set, getD-at}
 use lib.Ieee.{Float}
-use Rattle.limits.specs.Limits.{linkLimit, couplingLimit, dofLimit}
+use Rattle.limits.specs.Limits.{linkLimit, couplingLimit}
 use Rattle.floats.specs.Floats.{allFinite, zero32}
 use Rattle.masks.specs.Masks.{dofsOf, dampingRow}
 use Rattle.masks.specs.Answers.{laid}
-use Rattle.masks.specs.Starts.{totalOf, startOf}
+use Rattle.masks.specs.Starts.{totalOf}
 use Rattle.masks.proofs.Laws.{dofs-le}
 use Rattle.masks.proofs.Totals.{total-snoc}
 use Rattle.topology.specs.Tables.{allBelow}
@@ -29,7 +27,7 @@ use Rattle.arm.specs.declared.Arm.{Arm}
 use Rattle.arm.specs.Arm.{liveLinks, linksOf, couplingsOf, tagOf, lockedOf, tagsOf, parentsOf, masksOf, dofCountOf, entriesTo, rowsOf}
 use Rattle.arm.specs.Arm as of-arm
 use Rattle.arm.specs.Edits.{modify}
-use Rattle.arm.specs.HandedIn.{every, differs, isNew, unique, tagsUnique, parentsEarlier, couplingLinksFit, couplingsLinksFit, jointMasksFit, linkMasksFit, rootMaskFits, rootFits, linkFinite, rowsFinite, linkAngleFits}
+use Rattle.arm.specs.HandedIn.{every, differs, isNew, unique, tagsUnique, parentsEarlier, couplingLinksFit, jointMasksFit, linkMasksFit, rootMaskFits, rootFits, linkFinite, rowsFinite, linkAngleFits}
 use Rattle.arm.proofs.Accepted.{both-hold}
 use Rattle.arm.proofs.Every.{every-map}
 use Rattle.arm.proofs.Live.{links-live, masks-live}

@@ -1,7 +1,6 @@
 -- Demand 3 of the addition: only the new link is marked, and no earlier one has it for a parent. Assumes nothing.
-use Prim.Native.Nat.{ℕ, zero, suc, _+_, _≤_, _<_}
+use Prim.Native.Nat.{ℕ, _+_, _≤_, _<_}
 use mathlib.Core.Path.{_≡_, refl, sym, ap, _∙_}
-use mathlib.Core.Logic.{_≢_}
 use mathlib.Core.Bool.{Bool, true, false}
 use mathlib.Core.List.{List, [], map}
 use native.Mathlib.Omega.{arith}
@@ -11,7 +10,7 @@ use lib.Dec.{eqb}
 use lib.ListN.{length, getD, set, take, length-set, length-map, List·getD-map}
 use lib.Seq.{getD-set-other, take-set-le, length-take-le}
 use lib.Ieee.{Float}
-use Rattle.limits.specs.Limits.{linkLimit, dofLimit, blockSize}
+use Rattle.limits.specs.Limits.{linkLimit, dofLimit}
 use Rattle.masks.specs.Masks.{dofsOf, dampingRow}
 use Rattle.masks.specs.Answers.{laid}
 use Rattle.masks.specs.Starts.{totalOf, startOf}
@@ -23,13 +22,13 @@ use Rattle.arm.specs.Arm.{dofCountOf}
 use Rattle.arm.specs.Edits.{modify}
 use Rattle.arm.proofs.Lists.{map-take, map-at}
 use Rattle.kinematics.specs.Blocks.{blockAt}
-use Rattle.kinematics.specs.Link.{Kept, finiteKept}
-use Rattle.kinematics.specs.State.{State, state, noLink, linkAt, parentOf, lockedOf, inputsOf, keptAt, keptOps}
+use Rattle.kinematics.specs.Link.{finiteKept}
+use Rattle.kinematics.specs.State.{state, noLink, linkAt, parentOf, lockedOf, inputsOf, keptAt, keptOps}
 use Rattle.kinematics.proofs.Blocks.{with-length}
 use Rattle.kinematics.proofs.Pass.{new-same}
 use Rattle.working.specs.Full.{Settled}
 use Rattle.settled.specs.Pass.{Fresh, Ready}
-use Rattle.settled.specs.Promise.{entriesOf, Sized, Right}
+use Rattle.settled.specs.Promise.{entriesOf, Sized}
 use Rattle.settled.proofs.Parents.{parent-le}
 use Rattle.settled.proofs.Modified.{length-modify, modify-same, modify-other}
 use Rattle.settled.proofs.Settles.{Facts, facts}

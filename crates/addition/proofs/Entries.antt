@@ -1,20 +1,20 @@
 -- What is set of an arm for a new link: its row entries and its mark. Assumes nothing.
 use Prim.Native.Nat.{ℕ, zero, suc, _+_, _-_, _≤_, _<_}
-use mathlib.Core.Path.{_≡_, refl, sym, ap, ap₂, _∙_}
+use mathlib.Core.Path.{_≡_, refl, ap, _∙_}
 use mathlib.Core.Bool.{Bool, true, false}
-use mathlib.Core.List.{List, [], _∷_, _++_, map}
+use mathlib.Core.List.{List, _++_, map}
 use native.Mathlib.Omega.{arith}
 use native.Mathlib.Nat.{sub-zero}
 use borrow.Author.Tests.{le-leb, eqb-true, eqb-false}
-use lib.Dec.{eqb, leb}
-use lib.ListN.{length, getD, set, take, drop, replicate, length-replicate, length-map, getD-replicate, List·getD-eq-default, length-set}
+use lib.Dec.{eqb}
+use lib.ListN.{length, getD, set, take, drop, replicate, length-replicate, length-map}
 use lib.Seq.{getD-set-same, getD-set-other, length-take-le}
 use lib.Ieee.{Float}
 use Rattle.limits.specs.Limits.{linkLimit, dofLimit}
-use Rattle.refusal.specs.Refusal.{unlessOf, lowerOf}
+use Rattle.refusal.specs.Refusal.{lowerOf}
 use Rattle.floats.specs.Floats.{overlaid}
 use Rattle.masks.specs.declared.Count.{Count}
-use Rattle.masks.specs.Masks.{isMask, dofsOf, dampingRow}
+use Rattle.masks.specs.Masks.{dofsOf, dampingRow}
 use Rattle.masks.specs.Answers.{Outcome, out, laid, filled, dampingRefusal, dampingAnswer}
 use Rattle.masks.proofs.Laws.{dofs-le}
 use Rattle.masks.proofs.Totals.{total-le}

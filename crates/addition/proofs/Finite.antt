@@ -1,16 +1,15 @@
 -- A new link's own floats are finite: +0, 1 and the default damping are; and so are the rows with its entries. Assumes nothing.
-use Prim.Native.Nat.{ℕ, zero, suc, _+_, _≤_, _<_}
-use mathlib.Core.Path.{_≡_, refl, sym, ap, _∙_}
-use mathlib.Core.Bool.{Bool, true, false, not, cond, _&&_}
-use mathlib.Core.List.{List, [], _∷_, _++_, map}
+use Prim.Native.Nat.{ℕ, zero, suc, _+_, _≤_}
+use mathlib.Core.Path.{_≡_, refl}
+use mathlib.Core.Bool.{Bool, true, false, cond, _&&_}
+use mathlib.Core.List.{List, [], _∷_, _++_}
 use native.Mathlib.Nat.{suc-add, zero-add}
-use native.Mathlib.Omega.{arith}
 use lib.Dec.{eqb}
-use lib.ListN.{length, take, drop, getD, replicate}
+use lib.ListN.{length, take, drop}
 use lib.Seq.{take-at, length-take-le}
 use lib.Ieee.{Float, binary32, ofBits, ofFields, lt}
 use Rattle.floats.specs.Floats.{isFinite, allFinite, zero32, one32}
-use Rattle.masks.specs.Masks.{isFree, dofsOf, dampingOf, dampingBelow, dampingRow}
+use Rattle.masks.specs.Masks.{isFree, dampingOf, dampingBelow, dampingRow}
 use Rattle.masks.specs.Answers.{laid}
 use Rattle.planar.specs.Rotation.{isBeyond}
 use Rattle.planar.specs.Poses.{rotationOf, translationOf, identityPose, finiteRotation, finitePoint, finitePose}

@@ -1,15 +1,14 @@
 -- What is tested of a new link, as the code does; and what an addition that is not refused knows. Assumes nothing.
-use Prim.Native.Nat.{ℕ, zero, suc, _+_, _-_, _≤_, _<_}
+use Prim.Native.Nat.{ℕ, zero, suc, _≤_, _<_}
 use mathlib.Core.Path.{_≡_, refl, sym, ap, _∙_}
-use mathlib.Core.Bool.{Bool, true, false, _&&_, _||_}
-use mathlib.Core.List.{List, [], _∷_, map}
+use mathlib.Core.Bool.{Bool, true, _&&_, _||_}
+use mathlib.Core.List.{List}
 use native.Mathlib.Omega.{arith}
 use borrow.Author.Tests.{leb-true, ltb-true, eqb-true}
 use lib.Dec.{eqb, ltb}
 use lib.ListN.{length, take}
 use lib.Ieee.{Float}
 use Rattle.limits.specs.Limits.{linkLimit}
-use Rattle.refusal.specs.Refusal.{unlessOf, lowest}
 use Rattle.topology.specs.Parents.{parentFits}
 use Rattle.arm.specs.declared.Link.{Link}
 use Rattle.arm.specs.declared.Arm.{Arm}
@@ -22,7 +21,7 @@ use Rattle.settled.specs.Above.{aboveFinite}
 use Rattle.settled.proofs.Lowest.{none-of, holds}
 use Rattle.addition.specs.declared.NewLink.{NewLink}
 use Rattle.addition.specs.NewLink.{Small}
-use Rattle.addition.specs.Addition.{eachMask, masksFit, floatsFinite, turnsFit, addRefusal}
+use Rattle.addition.specs.Addition.{eachMask, masksFit, floatsFinite, addRefusal}
 
 -- ---- the tag
 

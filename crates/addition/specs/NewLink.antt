@@ -1,6 +1,5 @@
 -- A new link, its row entries, and the arm with it: damping by default, other rows, coordinates and springs zero, joint rotation identity.
-use Prim.Native.Nat.{ℕ, _+_, _≤_, _<_}
-use mathlib.Core.Path.{_≡_}
+use Prim.Native.Nat.{ℕ, _+_, _≤_}
 use mathlib.Core.List.{List, map}
 use lib.ListN.{set, take, replicate}
 use lib.Ieee.{Float}

@@ -5,4 +5,5 @@ pub mod Live
 pub mod Accepted
 pub mod Edits
 pub mod Agree
+pub mod Sized
 pub mod Theorems

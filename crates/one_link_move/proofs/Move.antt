@@ -1,7 +1,7 @@
 -- Demand 3 of the one-link move: its marks are the links at or below the moved one, so that every other link keeps its inputs and its parent's results.
 -- Assumes nothing.
-use Prim.Native.Nat.{ℕ, zero, suc, min, _≤_, _<_}
-use mathlib.Core.Path.{_≡_, refl, sym, ap, ap₂, subst, _∙_}
+use Prim.Native.Nat.{ℕ, _<_}
+use mathlib.Core.Path.{_≡_, refl, sym, ap, subst, _∙_}
 use mathlib.Core.Logic.{_≢_}
 use mathlib.Core.Bool.{Bool, true, false, _&&_}
 use mathlib.Core.List.{List, map}
@@ -9,9 +9,8 @@ use native.Mathlib.Omega.{arith}
 use native.Mathlib.Decide.{decLt}
 use borrow.Author.Tests.{ltb-true}
 use lib.Dec.{ltb}
-use lib.ListN.{length, take, getD, length-map}
+use lib.ListN.{length}
 use lib.Ieee.{Float}
-use Rattle.limits.specs.Limits.{linkLimit}
 use Rattle.planar.specs.Poses.{finiteRotation}
 use Rattle.masks.specs.Starts.{totalOf, startOf}
 use Rattle.floats.specs.Floats.{allFinite}
@@ -20,23 +19,21 @@ use Rattle.topology.specs.Parents.{parentsFit, marks}
 use Rattle.topology.specs.Parents as by-list
 use Rattle.topology.proofs.Theorems.{marks-right}
 use Rattle.arm.specs.declared.Link.{Link}
-use Rattle.arm.specs.declared.Row.{Row}
 use Rattle.arm.specs.declared.Arm.{Arm}
-use Rattle.arm.specs.Arm.{liveLinks, linksOf, couplingsOf, tagOf, tagsOf, parentsOf, masksOf, maskAt, dofCountOf, entriesTo, rowsOf}
+use Rattle.arm.specs.Arm.{liveLinks, linksOf, couplingsOf, tagOf, tagsOf, parentsOf, masksOf, dofCountOf, entriesTo, rowsOf}
 use Rattle.arm.specs.Arm as of-arm
 use Rattle.arm.specs.Edits.{modify, withLinks}
-use Rattle.arm.specs.HandedIn.{every, unique, tagsUnique, parentsEarlier, linkMasksFit, rootMaskFits, rootFits, linkFinite, rowsFinite, linkAngleFits, armRefusal}
+use Rattle.arm.specs.HandedIn.{every, unique, tagsUnique, parentsEarlier, linkMasksFit, rootMaskFits, rootFits, linkFinite, rowsFinite, linkAngleFits}
 use Rattle.arm.proofs.Accepted.{both-hold}
 use Rattle.kinematics.specs.Blocks.{blockAt}
-use Rattle.kinematics.specs.Link.{Kept, Inputs, finiteKept}
-use Rattle.kinematics.specs.State.{State, state, noLink, linkAt, parentOf, lockedOf, inputsOf, keptAt, keptOps, marked, resultOf}
+use Rattle.kinematics.specs.Link.{finiteKept}
+use Rattle.kinematics.specs.State.{state, noLink, linkAt, parentOf, lockedOf, inputsOf, keptAt, keptOps, marked}
 use Rattle.kinematics.proofs.Pass.{new-same}
 use Rattle.kinematics.proofs.Small.{differ}
-use Rattle.working.specs.Outcome.{tablesFit}
 use Rattle.working.specs.Full.{Settled}
 use Rattle.settled.specs.Above.{aboveFinite}
 use Rattle.settled.specs.Pass.{Fresh, Ready}
-use Rattle.settled.specs.Promise.{Sized, Right}
+use Rattle.settled.specs.Promise.{Sized}
 use Rattle.settled.proofs.Lowest.{none-of, holds}
 use Rattle.settled.proofs.Accepted.{Accepted}
 use Rattle.settled.proofs.Lists.{same-map, same-front, same-tests}
@@ -47,7 +44,7 @@ use Rattle.settled.proofs.Sticky.{rotations-finite}
 use Rattle.settled.proofs.Right.{Edit, right}
 use Rattle.one_link_move.specs.declared.Change.{Change}
 use Rattle.one_link_move.specs.Change.{changed, movedInputs}
-use Rattle.one_link_move.specs.Move.{axisFits, axisFree, changeFinite, turnsFit, angleWithin, moveRefusal, linkMoved}
+use Rattle.one_link_move.specs.Move.{changeFinite, angleWithin, moveRefusal, linkMoved}
 use Rattle.one_link_move.specs.Promise.{AtOrBelow, MoveRight}
 use Rattle.one_link_move.proofs.Changed.{same-tag, same-parent, same-locked, same-masks, resultsOf, same-results, still-finite, still-within}
 

@@ -1,12 +1,10 @@
 -- An arm that is not refused passes each test, and one that passes each test is not refused. Assumes nothing.
-use Prim.Native.Nat.{ℕ, zero, suc}
-use mathlib.Core.Path.{_≡_, refl}
-use mathlib.Core.Bool.{Bool, true, false, _&&_}
-use mathlib.Core.List.{List, [], _∷_}
-use Rattle.refusal.specs.Refusal.{unlessOf, lowerOf, lowest}
+use mathlib.Core.Path.{_≡_}
+use mathlib.Core.Bool.{true}
+use Rattle.refusal.specs.Refusal.{lowerOf}
 use Rattle.arm.specs.declared.Arm.{Arm}
 use Rattle.arm.specs.Arm.{linksOf, couplingsOf}
-use Rattle.arm.specs.HandedIn.{every, countsFit, tagsUnique, parentsEarlier, couplingLinksFit, couplingsLinksFit, linkNumbersFit, linkMasksFit, rootFits, couplingAxesFit, masksAndAxesFit, linkFinite, couplingFinite, rowsFinite, floatsFinite, anglesFit, armEntries, armRefusal}
+use Rattle.arm.specs.HandedIn.{every, countsFit, tagsUnique, parentsEarlier, couplingsLinksFit, linkNumbersFit, linkMasksFit, rootFits, couplingAxesFit, masksAndAxesFit, linkFinite, couplingFinite, rowsFinite, floatsFinite, anglesFit, armEntries, armRefusal}
 use Rattle.arm.proofs.Accepted.{both-hold}
 use Rattle.settled.proofs.Lowest.{none-of, holds}
 

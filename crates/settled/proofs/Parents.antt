@@ -2,12 +2,10 @@
 use Prim.Native.Nat.{ℕ, zero, suc, _≤_, _<_}
 use mathlib.Core.Path.{_≡_, sym, ap, _∙_}
 use mathlib.Core.Bool.{true}
-use mathlib.Core.List.{List}
 use native.Mathlib.Omega.{arith}
 use lib.ListN.{length, take, getD, length-map, List·getD-eq-default}
 use lib.Seq.{getD-take, length-take-le}
 use Rattle.limits.specs.Limits.{linkLimit}
-use Rattle.topology.specs.Parents.{parentsFit}
 use Rattle.topology.specs.Parents as by-list
 use Rattle.topology.proofs.Fitting.{earlier, root}
 use Rattle.arm.specs.declared.Link.{Link}

@@ -1,30 +1,25 @@
 -- The promises of the pass: states that keep the same of every link are equal, and the laws of any store say what is kept. Assumes nothing.
-use mathlib.Core.Path.{_≡_, refl, sym, ap, ap₂, _∙_}
-use Prim.Native.Nat.{ℕ, zero, suc, _+_, _-_, _*_, _≤_, _<_}
-use mathlib.Core.Bool.{Bool, true, false, cond}
-use mathlib.Core.List.{List, [], _∷_, _++_, map}
+use mathlib.Core.Path.{_≡_, sym, ap, ap₂, _∙_}
+use Prim.Native.Nat.{ℕ, _+_, _-_, _*_, _≤_, _<_}
+use mathlib.Core.Bool.{Bool, false}
+use mathlib.Core.List.{List, _++_}
 use native.Mathlib.Omega.{arith}
 use native.Mathlib.Decide.{decLt}
-use native.Mathlib.Numerals.{add-one}
 use lib.ListN.{length, take, drop, replicate, replicate-append-replicate, length-replicate, length-append, take-append-drop}
 use lib.Seq.{ext-getD, take-at, drop-at, length-take-le}
 use lib.Ieee.{Float}
 use Rattle.limits.specs.Limits.{linkLimit, blockSize, tableSize}
 use Rattle.floats.specs.Floats.{zero32}
-use Rattle.masks.specs.Masks.{dofsOf}
-use Rattle.masks.specs.Starts.{startOf, totalOf}
 use Rattle.arm.specs.declared.Link.{Link}
 use Rattle.kinematics.specs.Blocks.{part, blockAt, zeroBlock}
 use Rattle.kinematics.specs.Link.{Kept, finiteKept, withPlace, withKept}
-use Rattle.kinematics.specs.Pass.{run}
-use Rattle.kinematics.specs.State.{State, state, noLink, linkAt, parentOf, lockedOf, inputsOf, keptAt, putKept, keptOps, every, resultOf, stateAfter, fineAfter, cleared, laid, newBlock}
-use Rattle.settled.specs.Pass.{Untouched, Fits, Ready, LikeFull, AllFresh, Stays}
-use Rattle.kinematics.proofs.Small.{all-same}
-use Rattle.kinematics.proofs.Pass.{new-same, untouched, beyond, stays-good, pass-full, pass-tests}
+use Rattle.kinematics.specs.State.{State, state, noLink, linkAt, parentOf, inputsOf, keptAt, keptOps, every, stateAfter, fineAfter, cleared, laid, newBlock}
+use Rattle.settled.specs.Pass.{Fits, Ready, LikeFull, AllFresh, Stays}
+use Rattle.kinematics.proofs.Pass.{untouched, beyond, stays-good, pass-full, pass-tests}
 use Rattle.kinematics.proofs.Blocks.{room, blocks-same, block-front}
 use Rattle.kinematics.proofs.Laid.{laid-front, laid-length}
 use Rattle.kinematics.proofs.Store.{Good, laws, blank, after-blank}
-use Rattle.kinematics.proofs.Turns.{tables-after, new-size, start-more}
+use Rattle.kinematics.proofs.Turns.{tables-after, new-size}
 use Rattle.kinematics.proofs.Same.{every-fresh}
 
 pub all-fresh : AllFresh

@@ -1,15 +1,13 @@
 -- An arm whose links keep their inputs, and whose results are finite, is accepted as before. Assumes nothing.
-use Prim.Native.Nat.{ℕ, zero, suc, _≤_, _<_}
-use mathlib.Core.Path.{_≡_, refl, sym, ap, ap₂, _∙_}
+use Prim.Native.Nat.{ℕ}
+use mathlib.Core.Path.{_≡_, refl, sym, ap, _∙_}
 use mathlib.Core.Bool.{Bool, true, _&&_}
 use mathlib.Core.List.{List, map}
-use lib.ListN.{length, take, getD}
-use lib.Ieee.{Float}
+use lib.ListN.{length}
 use Rattle.masks.specs.Starts.{totalOf}
 use Rattle.planar.specs.Poses.{finitePoint}
 use Rattle.topology.specs.Parents.{parentsFit}
 use Rattle.arm.specs.declared.Link.{Link}
-use Rattle.arm.specs.declared.Row.{Row}
 use Rattle.arm.specs.declared.Arm.{Arm}
 use Rattle.arm.specs.Arm.{liveLinks, linksOf, couplingsOf, tagOf, parentOf, lockedOf, tagsOf, parentsOf, masksOf, dofCountOf, entriesTo, rowsOf}
 use Rattle.arm.specs.Edits.{withLinks}

@@ -1,8 +1,7 @@
 -- The promise of a call on one link: over marks that are closed downward, from links that are fresh where unmarked, it is the full working. Assumes nothing.
 use Prim.Native.Nat.{ℕ, zero, suc, _≤_, _<_}
 use mathlib.Core.Path.{_≡_, refl, sym, ap, ap₂, subst, _∙_}
-use mathlib.Core.Logic.{_↔_}
-use mathlib.Core.Bool.{Bool, true, false, cond}
+use mathlib.Core.Bool.{Bool, true, false}
 use mathlib.Core.List.{List}
 use native.Mathlib.Omega.{arith}
 use lib.ListN.{length, drop}
@@ -11,7 +10,7 @@ use Rattle.limits.specs.Limits.{linkLimit, tableSize}
 use Rattle.arm.specs.declared.Arm.{Arm}
 use Rattle.arm.specs.Edits.{withLinks}
 use Rattle.kinematics.specs.Blocks.{blockAt}
-use Rattle.kinematics.specs.State.{State, linkAt, stateAfter, fineAfter, every, cleared}
+use Rattle.kinematics.specs.State.{State, linkAt, stateAfter, fineAfter}
 use Rattle.working.specs.Outcome.{Outcome, says, unlessRefused, workedAll, workedMarked}
 use Rattle.working.specs.Full.{fullRefusal, fullWorking, Settled}
 use Rattle.settled.specs.Pass.{Fits, Ready}

@@ -1,29 +1,27 @@
 -- What the full working leaves is settled, and what a settled arm keeps is fresh and finite: a pass over no links leaves what the full pass leaves.
 -- Assumes nothing.
-use Prim.Native.Nat.{ℕ, zero, suc, min, _+_, _*_, _≤_, _<_}
+use Prim.Native.Nat.{ℕ, zero, suc, min, _≤_, _<_}
 use mathlib.Core.Path.{_≡_, refl, sym, ap, ap₂, subst, _∙_}
-use mathlib.Core.Bool.{Bool, true, false, cond, _&&_}
-use mathlib.Core.List.{List, _++_, map}
+use mathlib.Core.Bool.{Bool, true, false, cond}
+use mathlib.Core.List.{List}
 use native.Mathlib.Omega.{arith}
 use borrow.Author.Tests.{le-leb, leb-true}
-use lib.Dec.{leb}
-use lib.ListN.{length, take, drop, getD, replicate, length-replicate, length-append}
+use lib.ListN.{length, take, drop, replicate, length-replicate, length-append}
 use lib.Seq.{getD-take, length-take-le}
 use lib.Ieee.{Float}
 use Rattle.limits.specs.Limits.{linkLimit, blockSize, tableSize}
-use Rattle.refusal.specs.Refusal.{unlessOf, lowerOf}
-use Rattle.floats.specs.Floats.{zero32, allFinite}
+use Rattle.refusal.specs.Refusal.{lowerOf}
+use Rattle.floats.specs.Floats.{zero32}
 use Rattle.masks.specs.Starts.{startOf}
 use Rattle.arm.specs.declared.Link.{Link}
 use Rattle.arm.specs.declared.Arm.{Arm}
-use Rattle.arm.specs.declared.Edited.{Edited}
 use Rattle.arm.specs.Arm.{liveLinks, linksOf}
 use Rattle.arm.specs.Edits.{withLinks}
 use Rattle.arm.specs.HandedIn.{linkFinite, armRefusal}
 use Rattle.arm.specs.HandedIn as tests
 use Rattle.arm.proofs.Accepted.{both-hold}
 use Rattle.kinematics.specs.Blocks.{blockAt, zeroBlock}
-use Rattle.kinematics.specs.Link.{Kept, Inputs, finitePlace, finiteKept, withPlace}
+use Rattle.kinematics.specs.Link.{finitePlace, finiteKept, withPlace}
 use Rattle.kinematics.specs.Pass.{allTo}
 use Rattle.kinematics.specs.State.{State, state, noLink, linkAt, parentOf, lockedOf, inputsOf, keptAt, keptOps, every, resultOf, stateAfter, fineAfter, cleared}
 use Rattle.kinematics.specs.Answers.{passed, refreshMarked, refreshAll}

@@ -1,14 +1,14 @@
 -- Where a link's results are finite, so is the rotation of its joint: no product and no difference of what isn't finite is. Assumes nothing.
 use Prim.Native.Nat.{ℕ, _≤_, _<_}
 use mathlib.Core.Path.{_≡_, refl, sym, ap, _∙_}
-use mathlib.Core.Bool.{Bool, true, false, cond, _&&_}
+use mathlib.Core.Bool.{Bool, true, false, cond}
 use mathlib.Core.List.{List}
 use native.Mathlib.Omega.{arith}
 use lib.Dec.{eqb, ltb}
 use lib.ListN.{length}
 use lib.Ieee.{Float, nan, inf, fin, unlike, add, sub, neg, mul}
 use Rattle.limits.specs.Limits.{linkLimit}
-use Rattle.floats.specs.Floats.{isFinite, minus, times, allFinite}
+use Rattle.floats.specs.Floats.{isFinite, minus, times}
 use Rattle.planar.specs.declared.Rotation.{Rotation}
 use Rattle.planar.specs.declared.Pose.{Pose}
 use Rattle.planar.specs.Poses.{rotationOf, posed, rotationProduct, poseProduct, finiteRotation, finitePose}
@@ -17,7 +17,7 @@ use Rattle.multibody_joint.specs.Joint.{slidPose, bodyToParent}
 use Rattle.arm.specs.declared.Arm.{Arm}
 use Rattle.arm.proofs.Accepted.{both-hold}
 use Rattle.kinematics.specs.Link.{Kept, Inputs, rootPosed, laterPosed, keptOf, rootKept, laterKept, finitePlace, finiteKept}
-use Rattle.kinematics.specs.State.{linkAt, parentOf, inputsOf, keptAt, every, cleared}
+use Rattle.kinematics.specs.State.{linkAt, parentOf, inputsOf, keptAt, cleared}
 use Rattle.settled.specs.Pass.{Fits}
 use Rattle.settled.proofs.Pass.{all-fresh}
 use Rattle.settled.proofs.Lists.{both}

@@ -1,21 +1,16 @@
 -- What the pass over marked links promises, over the definitions that the contracts cite.
-use Prim.Native.Nat.{ℕ, _+_, _*_, _≤_, _<_}
+use Prim.Native.Nat.{ℕ, _≤_, _<_}
 use mathlib.Core.Path.{_≡_}
 use mathlib.Core.Bool.{Bool, true, false}
-use mathlib.Core.List.{List, map}
-use lib.ListN.{length, drop, getD}
-use lib.Ieee.{Float, nan}
-use Rattle.limits.specs.Limits.{linkLimit, dofLimit, blockSize, tableSize}
-use Rattle.floats.specs.Floats.{zero32}
-use Rattle.masks.specs.Masks.{dofsOf}
-use Rattle.masks.specs.Starts.{startOf}
-use Rattle.planar.specs.Poses.{finitePoint}
+use mathlib.Core.List.{List}
+use lib.ListN.{length, drop}
+use lib.Ieee.{Float}
+use Rattle.limits.specs.Limits.{linkLimit, tableSize}
 use Rattle.arm.specs.declared.Link.{Link}
 use Rattle.kinematics.specs.Blocks.{blockAt, zeroBlock}
-use Rattle.kinematics.specs.declared.Posed.{Posed}
-use Rattle.kinematics.specs.Link.{blockFrom, finiteKept}
+use Rattle.kinematics.specs.Link.{finiteKept}
 use Rattle.kinematics.specs.Pass.{Closed}
-use Rattle.kinematics.specs.State.{State, state, linkAt, parentOf, lockedOf, keptAt, every, resultOf, stateAfter, fineAfter, cleared}
+use Rattle.kinematics.specs.State.{State, state, linkAt, parentOf, keptAt, every, resultOf, stateAfter, fineAfter, cleared}
 
 -- what is kept of link j is what its parent's gives
 abbrev pub Fresh : List Link → List Float → ℕ → Type 0

@@ -1,3 +1,4 @@
+-- `add_refusal`: the same list of tests. Assumes nothing.
 use mathlib.Core.Path.{ap₂, _∙_}
 use mathlib.Core.Bool.{_&&_}
 use Rattle.settled.proofs.Lowest.{lowered, tested}
@@ -5,112 +6,76 @@ use Rattle.addition.specs.Addition.{addRefusal}
 use borrow.Author.Needs.{needs}
 use Rattle.addition.proofs.add_refusal.Statement.{statement}
 use Rattle.addition.proofs.add_refusal.Tie as tie
-use Rattle.addition.proofs.add_refusal.Reads as reads
-use Rattle.addition.proofs.add_refusal.Lts as lts
-use Rattle.addition.proofs.is_finite_new.Reads as is-finite-new-reads
-use Rattle.addition.proofs.is_new_tag.Reads as is-new-tag-reads
-use Rattle.addition.proofs.masks_fit.Reads as masks-fit-reads
-use Rattle.addition.proofs.turns_fit.Reads as turns-fit-reads
-use Rattle.arm.proofs.arm_refusal.Reads as arm-refusal-reads
-use Rattle.refusal.proofs.lower.Reads as lower-reads
-use Rattle.refusal.proofs.unless.Reads as unless-reads
-use Rattle.settled.proofs.is_finite_above.Reads as is-finite-above-reads
-use Rattle.topology.proofs.parent_fits.Reads as parent-fits-reads
-use Rattle.working.proofs.tables_fit.Reads as tables-fit-reads
 
--- src/lib.rt:100:9
 is-finite-above-requires : tie.Need-is-finite-above-requires
 is-finite-above-requires c κs = search needs
 
--- src/lib.rt:102:16
 tables-fit-requires : tie.Need-tables-fit-requires
 tables-fit-requires c κs = search needs
 
--- src/lib.rt:102:9
 unless-requires : tie.Need-unless-requires
 unless-requires c κs = search needs
 
--- src/lib.rt:104:13
 unless-requires-2 : tie.Need-unless-requires-2
 unless-requires-2 c κs = search needs
 
--- src/lib.rt:106:24
 is-new-tag-requires : tie.Need-is-new-tag-requires
 is-new-tag-requires c κs = search needs
 
--- src/lib.rt:106:17
 unless-requires-3 : tie.Need-unless-requires-3
 unless-requires-3 c κs = search needs
 
--- src/lib.rt:108:43
 cast-parent-fits : tie.Need-cast-parent-fits
 cast-parent-fits c = search needs
 
--- src/lib.rt:108:28
 parent-fits-requires : tie.Need-parent-fits-requires
 parent-fits-requires c κs = search needs
 
--- src/lib.rt:108:21
 unless-requires-4 : tie.Need-unless-requires-4
 unless-requires-4 c κs = search needs
 
--- src/lib.rt:110:32
 masks-fit-requires : tie.Need-masks-fit-requires
 masks-fit-requires c κs = search needs
 
--- src/lib.rt:110:25
 unless-requires-5 : tie.Need-unless-requires-5
 unless-requires-5 c κs = search needs
 
--- src/lib.rt:112:36
 is-finite-new-requires : tie.Need-is-finite-new-requires
 is-finite-new-requires c κs = search needs
 
--- src/lib.rt:112:29
 unless-requires-6 : tie.Need-unless-requires-6
 unless-requires-6 c κs = search needs
 
--- src/lib.rt:113:42
 turns-fit-requires : tie.Need-turns-fit-requires
 turns-fit-requires c κs = search needs
 
--- src/lib.rt:113:35
 unless-requires-7 : tie.Need-unless-requires-7
 unless-requires-7 c κs = search needs
 
--- src/lib.rt:113:62
 arm-refusal-requires : tie.Need-arm-refusal-requires
 arm-refusal-requires c κs = search needs
 
--- src/lib.rt:113:29
 lower-requires : tie.Need-lower-requires
 lower-requires c κs = search needs
 
--- src/lib.rt:111:25
 lower-requires-2 : tie.Need-lower-requires-2
 lower-requires-2 c κs = search needs
 
--- src/lib.rt:109:21
 lower-requires-3 : tie.Need-lower-requires-3
 lower-requires-3 c κs = search needs
 
--- src/lib.rt:107:17
 lower-requires-4 : tie.Need-lower-requires-4
 lower-requires-4 c κs = search needs
 
--- src/lib.rt:105:13
 lower-requires-5 : tie.Need-lower-requires-5
 lower-requires-5 c κs = search needs
 
--- src/lib.rt:103:9
 lower-requires-6 : tie.Need-lower-requires-6
 lower-requires-6 c κs = search needs
 
--- src/lib.rt:101:5
 lower-requires-7 : tie.Need-lower-requires-7
 lower-requires-7 c κs = search needs
 
--- src/lib.rt:96:1
 returns : tie.Need-returns
 unfolding addRefusal
 returns c =

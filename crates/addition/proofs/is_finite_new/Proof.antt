@@ -1,25 +1,18 @@
+-- `is_finite_new`: the same tests. Assumes nothing.
 use Rattle.addition.specs.Addition.{floatsFinite}
 use borrow.Author.Needs.{needs}
 use Rattle.addition.proofs.is_finite_new.Statement.{statement}
 use Rattle.addition.proofs.is_finite_new.Tie as tie
-use Rattle.addition.proofs.is_finite_new.Reads as reads
-use Rattle.addition.proofs.is_finite_new.Lts as lts
-use Rattle.planar.proofs.is_finite_point.Reads as is-finite-point-reads
-use Rattle.planar.proofs.is_finite_pose.Reads as is-finite-pose-reads
 
--- src/lib.rt:87:5
 is-finite-pose-requires : tie.Need-is-finite-pose-requires
 is-finite-pose-requires c κs = search needs
 
--- src/lib.rt:87:34
 is-finite-pose-requires-2 : tie.Need-is-finite-pose-requires-2
 is-finite-pose-requires-2 c κs = search needs
 
--- src/lib.rt:87:63
 is-finite-point-requires : tie.Need-is-finite-point-requires
 is-finite-point-requires c κs = search needs
 
--- src/lib.rt:84:1
 returns : tie.Need-returns
 unfolding floatsFinite
 returns c = cc

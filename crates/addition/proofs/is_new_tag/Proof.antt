@@ -1,3 +1,4 @@
+-- `is_new_tag`: what is tested of the first i tags, with what is left, is the whole test. Assumes nothing.
 use Prim.Native.Nat.{_-_, _≤_}
 use mathlib.Core.Path.{_≡_, refl}
 use native.Mathlib.Omega.{arith}
@@ -10,9 +11,6 @@ use Rattle.addition.proofs.Tests.{otherTag, tag-tested}
 use borrow.Author.Needs.{needs}
 use Rattle.addition.proofs.is_new_tag.Statement.{statement}
 use Rattle.addition.proofs.is_new_tag.Tie as tie
-use Rattle.addition.proofs.is_new_tag.Reads as reads
-use Rattle.addition.proofs.is_new_tag.Lts as lts
-use Rattle.arm.proofs.live_links.Reads as live-links-reads
 
 abbrev Inv-loop : tie.InvT-loop
 Inv-loop tag arm n new₀ i₀ new i = (n ≡ liveLinks arm) × (i ≤ n) × Tested (otherTag tag) (take n (arm .links)) i new
@@ -20,31 +18,24 @@ Inv-loop tag arm n new₀ i₀ new i = (n ≡ liveLinks arm) × (i ≤ n) × Tes
 abbrev μ-loop : tie.MeasureT-loop
 μ-loop tag arm n new₀ i₀ new i = n - i
 
--- src/lib.rt:62:9
 live-links-requires : tie.Need-live-links-requires Inv-loop μ-loop
 live-links-requires c κs = search needs
 
--- src/lib.rt:65:5
 loop-holds : tie.Need-loop-holds Inv-loop μ-loop
 loop-holds c = (c .live-links .ensures, omega arith, refl)
 
--- src/lib.rt:66:17
 mul-l : tie.Need-mul-l Inv-loop μ-loop
 mul-l c = search needs
 
--- src/lib.rt:66:17
 element-copy-out-l : tie.Need-element-copy-out-l Inv-loop μ-loop
 element-copy-out-l c = search needs
 
--- src/lib.rt:68:9
 add-i : tie.Need-add-i Inv-loop μ-loop
 add-i c = search needs
 
--- src/lib.rt:65:5
 loop-less : tie.Need-loop-less Inv-loop μ-loop
 loop-less c = search needs
 
--- src/lib.rt:65:5
 loop-again : tie.Need-loop-again Inv-loop μ-loop
 loop-again c =
     let a = c .before .before .before .before .before .args .t1 in
@@ -52,7 +43,6 @@ loop-again c =
     let w : length (a .links) ≡ linkLimit = links-length a (c .before .before .before .before .before .good .0) in
     (k .inv .0, omega arith, front-more (otherTag (c .before .before .before .before .before .args .tag)) (a .links) (c .before .before .before .before .live-links .result) (omega arith) (k .i) (k .new) _ _ (c .before .before .loop-test .taken) refl (k .inv .2))
 
--- src/lib.rt:59:1
 returns : tie.Need-returns Inv-loop μ-loop
 returns c =
     let a = c .before .before .before .args .t1 in

@@ -1,41 +1,30 @@
+-- `link_of`: field by field. Assumes nothing.
 use Rattle.addition.specs.NewLink.{linkOf}
 use borrow.Author.Needs.{needs}
 use Rattle.addition.proofs.link_of.Statement.{statement}
 use Rattle.addition.proofs.link_of.Tie as tie
-use Rattle.addition.proofs.link_of.Reads as reads
-use Rattle.addition.proofs.link_of.Lts as lts
-use Rattle.planar.proofs.identity.Reads as identity-reads
-use Rattle.planar.proofs.rotation_of.Reads as rotation-of-reads
 
--- src/lib.rt:134:17
 cast-t8 : tie.Need-cast-t8
 cast-t8 c = search needs
 
--- src/lib.rt:135:16
 cast-t9 : tie.Need-cast-t9
 cast-t9 c = search needs
 
--- src/lib.rt:136:16
 cast-t10 : tie.Need-cast-t10
 cast-t10 c = search needs
 
--- src/lib.rt:140:31
 identity-requires : tie.Need-identity-requires
 identity-requires c κs = search needs
 
--- src/lib.rt:140:19
 rotation-of-requires : tie.Need-rotation-of-requires
 rotation-of-requires c κs = search needs
 
--- src/lib.rt:147:17
 cast-t8-2 : tie.Need-cast-t8-2
 cast-t8-2 c = search needs
 
--- src/lib.rt:150:16
 identity-requires-2 : tie.Need-identity-requires-2
 identity-requires-2 c κs = search needs
 
--- src/lib.rt:125:1
 returns : tie.Need-returns
 unfolding linkOf
 returns c = cc

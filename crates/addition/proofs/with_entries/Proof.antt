@@ -1,51 +1,38 @@
+-- `with_entries`: the values are copied over their part of the row. Assumes nothing.
 use native.Mathlib.Omega.{arith}
-use lib.ListN.{length}
 use Rattle.arm.proofs.Shape.{row-length}
 use Rattle.addition.proofs.Entries.{entries-set}
 use borrow.Author.Needs.{needs}
 use Rattle.addition.proofs.with_entries.Statement.{statement}
 use Rattle.addition.proofs.with_entries.Tie as tie
-use Rattle.addition.proofs.with_entries.Reads as reads
-use Rattle.addition.proofs.with_entries.Lts as lts
-use Rattle.floats.proofs.copy.Reads as copy-reads
 
--- src/lib.rt:174:15
 add-end : tie.Need-add-end
 add-end c = search needs
 
--- src/lib.rt:175:10
 mul-entries : tie.Need-mul-entries
 mul-entries c = search needs
 
--- src/lib.rt:175:10
 sub-copy : tie.Need-sub-copy
 sub-copy c = search needs
 
--- src/lib.rt:175:10
 part-entries-start : tie.Need-part-entries-start
 part-entries-start c = search needs
 
--- src/lib.rt:175:10
 part-entries-end : tie.Need-part-entries-end
 part-entries-end c = omega (arith, row-length (c .before .args .row) (c .before .good .0))
 
--- src/lib.rt:175:36
 sub-copy-2 : tie.Need-sub-copy-2
 sub-copy-2 c = search needs
 
--- src/lib.rt:175:36
 part-copy-start : tie.Need-part-copy-start
 part-copy-start c = search needs
 
--- src/lib.rt:175:36
 part-copy-end : tie.Need-part-copy-end
 part-copy-end c = search needs
 
--- src/lib.rt:175:5
 copy-requires : tie.Need-copy-requires
 copy-requires c κs = search needs
 
--- src/lib.rt:169:1
 returns : tie.Need-returns
 returns c = entries-set (c .before .before .before .before .before .before .args .row) (c .before .before .before .before .before .before .args .start) (c .before .before .before .before .before .before .args .n) (c .before .before .before .before .before .before .args .t4) _ (omega (arith, row-length (c .before .before .before .before .before .before .args .row) (c .before .before .before .before .before .before .good .0))) (omega arith) (c .before .copy .ensures)
 

@@ -1,3 +1,4 @@
+-- `with_new_entries`: the first i rows have their zeros; then the damping row has its own. Assumes nothing.
 use mathlib.Core.Path.{sym, _∙_}
 use lib.ListN.{length-map, length-set}
 use Rattle.masks.proofs.Laws.{dofs-le}
@@ -14,13 +15,6 @@ use Rattle.addition.specs.NewLink.{zeros, entriesSet}
 use borrow.Author.Needs.{needs}
 use Rattle.addition.proofs.with_new_entries.Statement.{statement}
 use Rattle.addition.proofs.with_new_entries.Tie as tie
-use Rattle.addition.proofs.with_new_entries.Reads as reads
-use Rattle.addition.proofs.with_new_entries.Lts as lts
-use Rattle.addition.proofs.damping_of.Reads as damping-of-reads
-use Rattle.addition.proofs.with_entries.Reads as with-entries-reads
-use Rattle.arm.proofs.dof_count.Reads as dof-count-reads
-use Rattle.arm.proofs.row_number.Reads as row-number-reads
-use Rattle.masks.proofs.dofs.Reads as dofs-reads
 
 abbrev Inv-loop : tie.InvT-loop
 Inv-loop mask arm start n none rows₀ i₀ rows i = (i ≤ 5) × (length rows ≡ 5) × (take i rows ≡ take i (map (entriesSet start n none) (arm .rows)))
@@ -28,47 +22,36 @@ Inv-loop mask arm start n none rows₀ i₀ rows i = (i ≤ 5) × (length rows �
 abbrev μ-loop : tie.MeasureT-loop
 μ-loop mask arm start n none rows₀ i₀ rows i = 5 - i
 
--- src/lib.rt:184:9
 dof-count-requires : tie.Need-dof-count-requires Inv-loop μ-loop
 dof-count-requires c κs = search needs
 
--- src/lib.rt:185:9
 dofs-requires : tie.Need-dofs-requires Inv-loop μ-loop
 dofs-requires c κs = search needs
 
--- src/lib.rt:189:5
 loop-holds : tie.Need-loop-holds Inv-loop μ-loop
 loop-holds c = (omega arith, rows-length (c .before .before .before .args .t1) (c .before .before .before .good .0), refl)
 
--- src/lib.rt:190:19
 mul-row : tie.Need-mul-row Inv-loop μ-loop
 mul-row c = search needs
 
--- src/lib.rt:190:19
 element-copy-out-row : tie.Need-element-copy-out-row Inv-loop μ-loop
 element-copy-out-row c = search needs
 
--- src/lib.rt:191:19
 with-entries-requires : tie.Need-with-entries-requires Inv-loop μ-loop
 with-entries-requires c κs = (omega (arith, dofs-le (c .before .before .before .before .before .before .args .mask), c .before .before .before .before .dofs .ensures), omega (arith, c .before .before .before .before .before .dof-count .ensures, c .before .before .before .before .before .before .pre .1))
 
--- src/lib.rt:191:9
 mul-rows : tie.Need-mul-rows Inv-loop μ-loop
 mul-rows c = search needs
 
--- src/lib.rt:191:9
 array-set-from-rows : tie.Need-array-set-from-rows Inv-loop μ-loop
 array-set-from-rows c = search needs
 
--- src/lib.rt:192:9
 add-i : tie.Need-add-i Inv-loop μ-loop
 add-i c = search needs
 
--- src/lib.rt:189:5
 loop-less : tie.Need-loop-less Inv-loop μ-loop
 loop-less c = search needs
 
--- src/lib.rt:189:5
 loop-again : tie.Need-loop-again Inv-loop μ-loop
 loop-again c =
     let a = c .before .before .before .before .before .before .before .args .t1 in
@@ -79,35 +62,27 @@ loop-again c =
     let m : length (map f (a .rows)) ≡ length (a .rows) = length-map (a .rows) f in
     (omega arith, simp length-set (k .inv .1), filled-more (map f (a .rows)) (k .rows) (k .i) d _ (omega arith) (omega arith) (k .inv .2) (c .with-entries .ensures ∙ sym (map-at f (a .rows) (k .i) _ d (omega arith))))
 
--- src/lib.rt:194:9
 row-number-requires : tie.Need-row-number-requires Inv-loop μ-loop
 row-number-requires c κs = search needs
 
--- src/lib.rt:195:15
 mul-row-2 : tie.Need-mul-row-2 Inv-loop μ-loop
 mul-row-2 c = search needs
 
--- src/lib.rt:195:15
 array-copy-out-row : tie.Need-array-copy-out-row Inv-loop μ-loop
 array-copy-out-row c = search needs
 
--- src/lib.rt:196:49
 damping-of-requires : tie.Need-damping-of-requires Inv-loop μ-loop
 damping-of-requires c κs = search needs
 
--- src/lib.rt:196:21
 with-entries-requires-2 : tie.Need-with-entries-requires-2 Inv-loop μ-loop
 with-entries-requires-2 c κs = (omega (arith, dofs-le (c .before .before .before .before .before .before .before .before .args .mask), c .before .before .before .before .before .before .dofs .ensures), omega (arith, c .before .before .before .before .before .before .before .dof-count .ensures, c .before .before .before .before .before .before .before .before .pre .1))
 
--- src/lib.rt:196:5
 mul-rows-2 : tie.Need-mul-rows-2 Inv-loop μ-loop
 mul-rows-2 c = search needs
 
--- src/lib.rt:196:5
 array-set-from-rows-2 : tie.Need-array-set-from-rows-2 Inv-loop μ-loop
 array-set-from-rows-2 c = search needs
 
--- src/lib.rt:180:1
 returns : tie.Need-returns Inv-loop μ-loop
 returns c =
     let a = c .before .before .before .before .before .before .before .before .before .args .t1 in

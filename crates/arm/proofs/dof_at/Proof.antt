@@ -1,8 +1,8 @@
 -- `dof_at`: the link's start and the free axes below, a sum that fits. Assumes nothing.
 use native.Mathlib.Omega.{arith}
 use borrow.Author.Needs.{needs}
-use Rattle.arm.proofs.Live.{place-small}
 use Rattle.arm.specs.Edits.{dofAt}
+use Rattle.arm.proofs.Live.{place-small}
 use Rattle.arm.proofs.dof_at.Statement.{statement}
 use Rattle.arm.proofs.dof_at.Tie as tie
 

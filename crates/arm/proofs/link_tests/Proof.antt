@@ -6,12 +6,12 @@ use mathlib.Core.Path.{_≡_, refl}
 use native.Mathlib.Omega.{arith}
 use borrow.Author.Needs.{needs}
 use Rattle.limits.specs.Limits.{linkLimit}
-use Rattle.arm.proofs.Every.{Tested, front-more, front-all}
-use Rattle.arm.proofs.Shape.{links-length}
 use Rattle.arm.specs.Arm.{liveLinks, linksOf}
 use Rattle.arm.specs.HandedIn.{linkAngleFits, linkFinite, linkMasksFit, linkTestsOf}
 use Rattle.arm.specs.declared.Arm.{Arm}
 use Rattle.arm.specs.declared.LinkTests.{LinkTests}
+use Rattle.arm.proofs.Every.{Tested, front-more, front-all}
+use Rattle.arm.proofs.Shape.{links-length}
 use Rattle.arm.proofs.link_tests.Statement.{statement}
 use Rattle.arm.proofs.link_tests.Tie as tie
 

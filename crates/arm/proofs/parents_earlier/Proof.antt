@@ -2,10 +2,10 @@
 use mathlib.Core.Path.{_∙_, ap}
 use borrow.Author.Needs.{needs}
 use Rattle.topology.specs.Parents.{parentsFit}
+use Rattle.arm.specs.HandedIn.{parentsEarlier}
 use Rattle.arm.proofs.Shape.{links-length}
 use Rattle.arm.proofs.Lists.{front}
 use Rattle.arm.proofs.Live.{parents-front}
-use Rattle.arm.specs.HandedIn.{parentsEarlier}
 use Rattle.arm.proofs.parents_earlier.Statement.{statement}
 use Rattle.arm.proofs.parents_earlier.Tie as tie
 

@@ -6,13 +6,13 @@ use mathlib.Core.Path.{_≡_, refl, _∙_, ap, sym}
 use native.Mathlib.Omega.{arith}
 use borrow.Author.Needs.{needs}
 use Rattle.floats.specs.Floats.{allFinite}
-use Rattle.arm.proofs.Every.{Tested, tested-more, every-map, tested-all}
-use Rattle.arm.proofs.Shape.{rows-length}
-use Rattle.arm.proofs.Live.{dof-count-le}
 use Rattle.arm.specs.Arm.{dofCountOf, entriesTo, rowsOf}
 use Rattle.arm.specs.HandedIn.{rowFinite, every, rowsFinite}
 use Rattle.arm.specs.declared.Arm.{Arm}
 use Rattle.arm.specs.declared.Row.{Row}
+use Rattle.arm.proofs.Every.{Tested, tested-more, every-map, tested-all}
+use Rattle.arm.proofs.Shape.{rows-length}
+use Rattle.arm.proofs.Live.{dof-count-le}
 use Rattle.arm.proofs.rows_finite.Statement.{statement}
 use Rattle.arm.proofs.rows_finite.Tie as tie
 

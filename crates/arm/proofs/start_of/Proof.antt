@@ -3,9 +3,9 @@ use Prim.Native.Nat.{_-_, _≤_, min}
 use mathlib.Core.Path.{_≡_, _∙_}
 use native.Mathlib.Omega.{arith}
 use borrow.Author.Needs.{needs}
+use Rattle.arm.specs.Arm.{startAt, liveLinks}
 use Rattle.arm.proofs.Shape.{links-length}
 use Rattle.arm.proofs.Live.{start-le, start-more, start-none, start-end, dofs-small}
-use Rattle.arm.specs.Arm.{startAt, liveLinks}
 use Rattle.arm.proofs.start_of.Statement.{statement}
 use Rattle.arm.proofs.start_of.Tie as tie
 

@@ -1,10 +1,10 @@
 -- `tags_unique`: the front of all tags are the tags of the links that count. Assumes nothing.
 use mathlib.Core.Path.{_∙_, ap}
 use borrow.Author.Needs.{needs}
+use Rattle.arm.specs.HandedIn.{tagsUnique, unique}
 use Rattle.arm.proofs.Shape.{links-length}
 use Rattle.arm.proofs.Lists.{front}
 use Rattle.arm.proofs.Live.{tags-front}
-use Rattle.arm.specs.HandedIn.{tagsUnique, unique}
 use Rattle.arm.proofs.tags_unique.Statement.{statement}
 use Rattle.arm.proofs.tags_unique.Tie as tie
 

@@ -1,11 +1,10 @@
 -- `add_coupling`: an accepted coupling has a place, and its numbers are bytes; a refusal returns the arm. Assumes nothing.
-use Rattle.arm.proofs.Edits.{edited-none, edited-some}
--- `add_coupling`: an accepted coupling has a place, and its numbers are bytes; a refusal returns the arm. Assumes nothing.
-use Rattle.arm_edits.proofs.Accepted.{coupling-fits}
-use Rattle.arm_edits.specs.Couplings.{couplingAdded, withCoupling}
 use mathlib.Core.Path.{_∙_, refl, sym}
 use native.Mathlib.Omega.{arith}
 use borrow.Author.Needs.{needs}
+use Rattle.arm.proofs.Edits.{edited-none, edited-some}
+use Rattle.arm_edits.specs.Couplings.{couplingAdded, withCoupling}
+use Rattle.arm_edits.proofs.Accepted.{coupling-fits}
 use Rattle.arm_edits.proofs.add_coupling.Statement.{statement}
 use Rattle.arm_edits.proofs.add_coupling.Tie as tie
 

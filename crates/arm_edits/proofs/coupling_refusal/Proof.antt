@@ -1,11 +1,10 @@
 -- `coupling_refusal`: the same list of tests, then the arm's. Assumes nothing.
-use Rattle.arm.proofs.Accepted.{own-then-arm}
--- `coupling_refusal`: the same list of tests, then the arm's. Assumes nothing.
-use Rattle.arm_edits.specs.Couplings.{couplingRefusal}
 use mathlib.Core.Bool.{_&&_}
 use borrow.Author.Needs.{needs}
+use Rattle.arm.proofs.Accepted.{own-then-arm}
 use Rattle.refusal.specs.Refusal.{unlessOf}
 use Rattle.floats.specs.Floats.{isFinite}
+use Rattle.arm_edits.specs.Couplings.{couplingRefusal}
 use Rattle.arm_edits.proofs.coupling_refusal.Statement.{statement}
 use Rattle.arm_edits.proofs.coupling_refusal.Tie as tie
 

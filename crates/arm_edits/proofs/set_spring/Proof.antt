@@ -1,13 +1,12 @@
 -- `set_spring`: an accepted call's link is in the array, and its element is changed; a refusal returns the arm. Assumes nothing.
-use Rattle.arm.proofs.Accepted.{live}
-use Rattle.arm.proofs.Edits.{edited-none, edited-some}
--- `set_spring`: an accepted call's link is in the array, and its element is changed; a refusal returns the arm. Assumes nothing.
-use Rattle.arm_edits.proofs.Accepted.{set-spring-axis, set-spring-there}
-use Rattle.arm_edits.proofs.Stores.{spring-stored}
-use Rattle.arm_edits.specs.Springs.{armSpringSet}
 use mathlib.Core.Path.{_∙_, sym}
 use native.Mathlib.Omega.{arith}
 use borrow.Author.Needs.{needs}
+use Rattle.arm.proofs.Accepted.{live}
+use Rattle.arm.proofs.Edits.{edited-none, edited-some}
+use Rattle.arm_edits.specs.Springs.{armSpringSet}
+use Rattle.arm_edits.proofs.Accepted.{set-spring-axis, set-spring-there}
+use Rattle.arm_edits.proofs.Stores.{spring-stored}
 use Rattle.arm_edits.proofs.set_spring.Statement.{statement}
 use Rattle.arm_edits.proofs.set_spring.Tie as tie
 

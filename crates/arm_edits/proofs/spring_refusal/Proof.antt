@@ -1,9 +1,8 @@
 -- `spring_refusal`: the same list of tests, then the arm's. Assumes nothing.
-use Rattle.arm.proofs.Accepted.{own-then-arm}
--- `spring_refusal`: the same list of tests, then the arm's. Assumes nothing.
-use Rattle.arm_edits.specs.Springs.{springFinite, springRefusal}
 use borrow.Author.Needs.{needs}
+use Rattle.arm.proofs.Accepted.{own-then-arm}
 use Rattle.refusal.specs.Refusal.{unlessOf}
+use Rattle.arm_edits.specs.Springs.{springFinite, springRefusal}
 use Rattle.arm_edits.proofs.spring_refusal.Statement.{statement}
 use Rattle.arm_edits.proofs.spring_refusal.Tie as tie
 

@@ -1,10 +1,9 @@
 -- `write_refusal`: the same list of tests, then the arm's. Assumes nothing.
-use Rattle.arm.proofs.Accepted.{own-then-arm}
--- `write_refusal`: the same list of tests, then the arm's. Assumes nothing.
-use Rattle.arm_edits.specs.Rows.{writeRefusal}
 use borrow.Author.Needs.{needs}
+use Rattle.arm.proofs.Accepted.{own-then-arm}
 use Rattle.refusal.specs.Refusal.{unlessOf}
 use Rattle.floats.specs.Floats.{isFinite}
+use Rattle.arm_edits.specs.Rows.{writeRefusal}
 use Rattle.arm_edits.proofs.write_refusal.Statement.{statement}
 use Rattle.arm_edits.proofs.write_refusal.Tie as tie
 

@@ -1,14 +1,13 @@
 -- `write_row`: an accepted write's entry lies in its row, and is stored there; a refusal returns the arm. Assumes nothing.
-use Rattle.arm.proofs.Accepted.{live}
-use Rattle.arm.proofs.Edits.{edited-none, edited-some, row-there, dof-in-row}
-use Rattle.arm.proofs.Shape.{links-length}
--- `write_row`: an accepted write's entry lies in its row, and is stored there; a refusal returns the arm. Assumes nothing.
-use Rattle.arm_edits.proofs.Accepted.{write-axis, write-free, write-there}
-use Rattle.arm_edits.proofs.Stores.{entry-stored}
-use Rattle.arm_edits.specs.Rows.{rowWritten}
 use mathlib.Core.Path.{_∙_, sym}
 use native.Mathlib.Omega.{arith}
 use borrow.Author.Needs.{needs}
+use Rattle.arm.proofs.Accepted.{live}
+use Rattle.arm.proofs.Edits.{edited-none, edited-some, row-there, dof-in-row}
+use Rattle.arm.proofs.Shape.{links-length}
+use Rattle.arm_edits.specs.Rows.{rowWritten}
+use Rattle.arm_edits.proofs.Accepted.{write-axis, write-free, write-there}
+use Rattle.arm_edits.proofs.Stores.{entry-stored}
 use Rattle.arm_edits.proofs.write_row.Statement.{statement}
 use Rattle.arm_edits.proofs.write_row.Tie as tie
 

@@ -1,10 +1,9 @@
 -- `arm_dofs`: the DoF count is a byte; a refusal gives no count. Assumes nothing.
-use Rattle.arm.proofs.Live.{dof-count-le}
--- `arm_dofs`: the DoF count is a byte; a refusal gives no count. Assumes nothing.
-use Rattle.arm_views.proofs.Answers.{count-none, count-some}
-use Rattle.arm_views.specs.Numbers.{dofsAnswer}
 use native.Mathlib.Omega.{arith}
 use borrow.Author.Needs.{needs}
+use Rattle.arm.proofs.Live.{dof-count-le}
+use Rattle.arm_views.specs.Numbers.{dofsAnswer}
+use Rattle.arm_views.proofs.Answers.{count-none, count-some}
 use Rattle.arm_views.proofs.arm_dofs.Statement.{statement}
 use Rattle.arm_views.proofs.arm_dofs.Tie as tie
 

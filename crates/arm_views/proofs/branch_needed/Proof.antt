@@ -1,11 +1,10 @@
 -- `branch_needed`: in spare memory every branch fits, so the count there is what it needs. Assumes nothing.
-use Rattle.arm.proofs.Shape.{links-length}
-use Rattle.arm.proofs.Lists.{front}
-use Rattle.arm.proofs.Live.{parents-front}
--- `branch_needed`: in spare memory every branch fits, so the count there is what it needs. Assumes nothing.
 use lib.ListN.{replicate}
 use mathlib.Core.Path.{_∙_, refl}
 use borrow.Author.Needs.{needs}
+use Rattle.arm.proofs.Shape.{links-length}
+use Rattle.arm.proofs.Lists.{front}
+use Rattle.arm.proofs.Live.{parents-front}
 use Rattle.limits.specs.Limits.{linkLimit}
 use Rattle.arm_views.proofs.Branches.{arm-needed}
 use Rattle.arm_views.proofs.branch_needed.Statement.{statement}

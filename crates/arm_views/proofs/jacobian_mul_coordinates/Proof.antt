@@ -1,13 +1,12 @@
 -- `jacobian_mul_coordinates`: an accepted call's link is in the array; a refusal gives zeros. Assumes nothing.
-use Rattle.arm.proofs.Accepted.{live}
-use Rattle.arm.proofs.Shape.{links-length}
--- `jacobian_mul_coordinates`: an accepted call's link is in the array; a refusal gives zeros. Assumes nothing.
-use Rattle.arm_views.proofs.Accepted.{mul-there}
-use Rattle.arm_views.proofs.Answers.{axes-none, axes-some, of-link}
-use Rattle.arm_views.specs.Links.{axesIn, mulAnswer, zeros}
 use mathlib.Core.Path.{_∙_, sym}
 use native.Mathlib.Omega.{arith}
 use borrow.Author.Needs.{needs}
+use Rattle.arm.proofs.Accepted.{live}
+use Rattle.arm.proofs.Shape.{links-length}
+use Rattle.arm_views.specs.Links.{axesIn, mulAnswer, zeros}
+use Rattle.arm_views.proofs.Accepted.{mul-there}
+use Rattle.arm_views.proofs.Answers.{axes-none, axes-some, of-link}
 use Rattle.arm_views.proofs.jacobian_mul_coordinates.Statement.{statement}
 use Rattle.arm_views.proofs.jacobian_mul_coordinates.Tie as tie
 

@@ -1,10 +1,9 @@
 -- `link_start`: a start is a byte; a refusal gives no count. Assumes nothing.
-use Rattle.arm.proofs.Live.{dof-count-le, start-within}
--- `link_start`: a start is a byte; a refusal gives no count. Assumes nothing.
-use Rattle.arm_views.proofs.Answers.{count-none, count-some}
-use Rattle.arm_views.specs.Numbers.{startAnswer}
 use native.Mathlib.Omega.{arith}
 use borrow.Author.Needs.{needs}
+use Rattle.arm.proofs.Live.{dof-count-le, start-within}
+use Rattle.arm_views.specs.Numbers.{startAnswer}
+use Rattle.arm_views.proofs.Answers.{count-none, count-some}
 use Rattle.arm_views.proofs.link_start.Statement.{statement}
 use Rattle.arm_views.proofs.link_start.Tie as tie
 

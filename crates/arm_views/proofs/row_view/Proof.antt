@@ -1,13 +1,12 @@
 -- `row_view`: an accepted part lies within both rows; refused, it is empty. Assumes nothing.
-use Rattle.arm.proofs.Shape.{links-length}
--- `row_view`: an accepted part lies within both rows; refused, it is empty. Assumes nothing.
 use lib.ListN.{length}
 use mathlib.Core.Path.{_∙_, sym, ap}
 use native.Mathlib.Omega.{arith}
 use borrow.Author.Needs.{needs}
+use Rattle.arm.proofs.Shape.{links-length}
 use Rattle.arm_views.specs.declared.Role.{Role}
-use Rattle.arm_views.proofs.Views.{end-at, seen-some, view-within, view-done}
 use Rattle.arm_views.specs.View.{viewAnswer, rowOf}
+use Rattle.arm_views.proofs.Views.{end-at, seen-some, view-within, view-done}
 use Rattle.arm_views.proofs.row_view.Statement.{statement}
 use Rattle.arm_views.proofs.row_view.Tie as tie
 

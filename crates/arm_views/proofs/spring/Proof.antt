@@ -1,13 +1,12 @@
 -- `spring`: an accepted call's link is in the array; a refusal gives zeros. Assumes nothing.
-use Rattle.arm.proofs.Accepted.{live}
-use Rattle.arm.proofs.Shape.{links-length}
--- `spring`: an accepted call's link is in the array; a refusal gives zeros. Assumes nothing.
-use Rattle.arm_views.proofs.Accepted.{spring-axis, spring-there}
-use Rattle.arm_views.proofs.Answers.{of-link, spring-none, spring-some}
-use Rattle.arm_views.specs.Links.{noSpring, springAnswer, springIn}
 use mathlib.Core.Path.{_∙_, sym}
 use native.Mathlib.Omega.{arith}
 use borrow.Author.Needs.{needs}
+use Rattle.arm.proofs.Accepted.{live}
+use Rattle.arm.proofs.Shape.{links-length}
+use Rattle.arm_views.specs.Links.{noSpring, springAnswer, springIn}
+use Rattle.arm_views.proofs.Accepted.{spring-axis, spring-there}
+use Rattle.arm_views.proofs.Answers.{of-link, spring-none, spring-some}
 use Rattle.arm_views.proofs.spring.Statement.{statement}
 use Rattle.arm_views.proofs.spring.Tie as tie
 

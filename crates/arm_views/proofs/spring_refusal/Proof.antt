@@ -1,10 +1,9 @@
 -- `spring_refusal`: the same list of tests, then the arm's. Assumes nothing.
-use Rattle.arm.proofs.Accepted.{own-then-arm}
--- `spring_refusal`: the same list of tests, then the arm's. Assumes nothing.
-use Rattle.arm_views.specs.Links.{springRefusal}
 use borrow.Author.Needs.{needs}
+use Rattle.arm.proofs.Accepted.{own-then-arm}
 use Rattle.refusal.specs.Refusal.{unlessOf}
 use Rattle.masks.specs.Masks.{isAxis}
+use Rattle.arm_views.specs.Links.{springRefusal}
 use Rattle.arm_views.proofs.spring_refusal.Statement.{statement}
 use Rattle.arm_views.proofs.spring_refusal.Tie as tie
 

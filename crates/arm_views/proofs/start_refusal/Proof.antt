@@ -1,10 +1,9 @@
 -- `start_refusal`: the same list of tests, then the arm's. Assumes nothing.
+use borrow.Author.Needs.{needs}
 use Rattle.arm.proofs.Accepted.{own-then-arm}
 use Rattle.arm.specs.Arm.{isLink}
--- `start_refusal`: the same list of tests, then the arm's. Assumes nothing.
-use Rattle.arm_views.specs.Numbers.{startRefusal}
-use borrow.Author.Needs.{needs}
 use Rattle.refusal.specs.Refusal.{unlessOf}
+use Rattle.arm_views.specs.Numbers.{startRefusal}
 use Rattle.arm_views.proofs.start_refusal.Statement.{statement}
 use Rattle.arm_views.proofs.start_refusal.Tie as tie
 

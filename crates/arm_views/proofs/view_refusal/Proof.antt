@@ -1,8 +1,7 @@
 -- `view_refusal`: the same list of tests, then the arm's. Assumes nothing.
-use Rattle.arm.proofs.Accepted.{own-then-arm}
--- `view_refusal`: the same list of tests, then the arm's. Assumes nothing.
 use lib.Dec.{ltb}
 use borrow.Author.Needs.{needs}
+use Rattle.arm.proofs.Accepted.{own-then-arm}
 use Rattle.refusal.specs.Refusal.{unlessOf}
 use Rattle.arm_views.specs.View.{viewRefusal}
 use Rattle.arm_views.proofs.view_refusal.Statement.{statement}

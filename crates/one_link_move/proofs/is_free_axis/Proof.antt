@@ -1,3 +1,4 @@
+-- `is_free_axis`: an axis above 2 is none, and not free. Assumes nothing.
 use Prim.Native.Nat.{_≤_}
 use mathlib.Core.Path.{_∙_, sym}
 use native.Mathlib.Omega.{arith}
@@ -6,28 +7,19 @@ use Rattle.masks.specs.Masks.{isFree}
 use borrow.Author.Needs.{needs}
 use Rattle.one_link_move.proofs.is_free_axis.Statement.{statement}
 use Rattle.one_link_move.proofs.is_free_axis.Tie as tie
-use Rattle.one_link_move.proofs.is_free_axis.Reads as reads
-use Rattle.one_link_move.proofs.is_free_axis.Lts as lts
-use Rattle.masks.proofs.is_axis.Reads as is-axis-reads
-use Rattle.masks.proofs.is_free.Reads as is-free-reads
 
--- src/lib.rt:49:8
 is-axis-requires : tie.Need-is-axis-requires
 is-axis-requires c κs = search needs
 
--- src/lib.rt:50:32
 cast-is-free : tie.Need-cast-is-free
 cast-is-free c = let h : c .before .before .args .axis ≤ 2 = leb-true (c .before .before .args .axis) 2 (sym (c .before .is-axis .ensures) ∙ c .if1 .taken) in omega arith
 
--- src/lib.rt:50:9
 is-free-requires : tie.Need-is-free-requires
 is-free-requires c κs = search needs
 
--- src/lib.rt:50:9
 returns : tie.Need-returns
 returns c = search needs
 
--- src/lib.rt:46:1
 returns-2 : tie.Need-returns-2
 unfolding isFree
 returns-2 c = rw (sym (c .before .is-axis .ensures) ∙ c .if1 .left)

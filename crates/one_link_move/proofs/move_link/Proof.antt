@@ -1,3 +1,4 @@
+-- `move_link`: a refusal, or the marked links worked out. Assumes nothing.
 use Rattle.kinematics.specs.State.{marked}
 use Rattle.working.specs.Outcome.{workedMarked}
 use mathlib.Core.Path.{_∙_}
@@ -6,43 +7,29 @@ use Rattle.one_link_move.specs.Move.{linkMoved}
 use borrow.Author.Needs.{needs}
 use Rattle.one_link_move.proofs.move_link.Statement.{statement}
 use Rattle.one_link_move.proofs.move_link.Tie as tie
-use Rattle.one_link_move.proofs.move_link.Reads as reads
-use Rattle.one_link_move.proofs.move_link.Lts as lts
-use Rattle.one_link_move.proofs.marks_of.Reads as marks-of-reads
-use Rattle.one_link_move.proofs.move_refusal.Reads as move-refusal-reads
-use Rattle.one_link_move.proofs.with_moved.Reads as with-moved-reads
-use Rattle.working.proofs.work_marked.Reads as work-marked-reads
 
--- src/lib.rt:203:9
 move-refusal-requires : tie.Need-move-refusal-requires
 move-refusal-requires c κs = search needs
 
--- src/lib.rt:205:9
 same-length : tie.Need-same-length
 same-length c = search needs
 
--- src/lib.rt:205:9
 returns : tie.Need-returns
 unfolding linkMoved
 returns c = refused (c .before .move-refusal .ensures) (c .before .before .before .before .args .arm) (c .before .before .before .before .args .tables .now) (c .if1 .taken) _
 
--- src/lib.rt:208:9
 marks-of-requires : tie.Need-marks-of-requires
 marks-of-requires c κs = search needs
 
--- src/lib.rt:209:9
 with-moved-requires : tie.Need-with-moved-requires
 with-moved-requires c κs = search needs
 
--- src/lib.rt:210:5
 work-marked-requires : tie.Need-work-marked-requires
 work-marked-requires c κs = search needs
 
--- src/lib.rt:200:1
 same-length-2 : tie.Need-same-length-2
 same-length-2 c = search needs
 
--- src/lib.rt:200:1
 returns-2 : tie.Need-returns-2
 unfolding linkMoved
 returns-2 c =

@@ -1,7 +1,7 @@
+-- `move_refusal`: the same list of tests. Assumes nothing.
 use Prim.Native.Nat.{ℕ}
-use mathlib.Core.Path.{_≡_, refl, ap, ap₂, _∙_}
+use mathlib.Core.Path.{ap, ap₂, _∙_}
 use mathlib.Core.Bool.{_&&_}
-use Rattle.arm.specs.Arm.{maskAt}
 use Rattle.settled.specs.Above.{aboveFinite}
 use Rattle.one_link_move.specs.declared.ChangeTests.{ChangeTests}
 use Rattle.settled.proofs.Lowest.{lowered, tested}
@@ -9,102 +9,70 @@ use Rattle.one_link_move.specs.Move.{testsOf, moveRefusal}
 use borrow.Author.Needs.{needs}
 use Rattle.one_link_move.proofs.move_refusal.Statement.{statement}
 use Rattle.one_link_move.proofs.move_refusal.Tie as tie
-use Rattle.one_link_move.proofs.move_refusal.Reads as reads
-use Rattle.one_link_move.proofs.move_refusal.Lts as lts
-use Rattle.arm.proofs.arm_refusal.Reads as arm-refusal-reads
-use Rattle.arm.proofs.mask_at.Reads as mask-at-reads
-use Rattle.one_link_move.proofs.change_tests.Reads as change-tests-reads
-use Rattle.one_link_move.proofs.parent_at.Reads as parent-at-reads
-use Rattle.refusal.proofs.lower.Reads as lower-reads
-use Rattle.refusal.proofs.unless.Reads as unless-reads
-use Rattle.settled.proofs.is_finite_above.Reads as is-finite-above-reads
-use Rattle.working.proofs.tables_fit.Reads as tables-fit-reads
 
--- src/lib.rt:107:30
 mask-at-requires : tie.Need-mask-at-requires
 mask-at-requires c κs = search needs
 
--- src/lib.rt:107:9
 change-tests-requires : tie.Need-change-tests-requires
 change-tests-requires c κs = search needs
 
--- src/lib.rt:108:37
 parent-at-requires : tie.Need-parent-at-requires
 parent-at-requires c κs = search needs
 
--- src/lib.rt:108:37
 cast-is-finite-above : tie.Need-cast-is-finite-above
 cast-is-finite-above c = search needs
 
--- src/lib.rt:108:9
 is-finite-above-requires : tie.Need-is-finite-above-requires
 is-finite-above-requires c κs = search needs
 
--- src/lib.rt:110:16
 tables-fit-requires : tie.Need-tables-fit-requires
 tables-fit-requires c κs = search needs
 
--- src/lib.rt:110:9
 unless-requires : tie.Need-unless-requires
 unless-requires c κs = search needs
 
--- src/lib.rt:112:13
 unless-requires-2 : tie.Need-unless-requires-2
 unless-requires-2 c κs = search needs
 
--- src/lib.rt:114:17
 unless-requires-3 : tie.Need-unless-requires-3
 unless-requires-3 c κs = search needs
 
--- src/lib.rt:116:21
 unless-requires-4 : tie.Need-unless-requires-4
 unless-requires-4 c κs = search needs
 
--- src/lib.rt:118:25
 unless-requires-5 : tie.Need-unless-requires-5
 unless-requires-5 c κs = search needs
 
--- src/lib.rt:120:29
 unless-requires-6 : tie.Need-unless-requires-6
 unless-requires-6 c κs = search needs
 
--- src/lib.rt:121:35
 unless-requires-7 : tie.Need-unless-requires-7
 unless-requires-7 c κs = search needs
 
--- src/lib.rt:121:59
 arm-refusal-requires : tie.Need-arm-refusal-requires
 arm-refusal-requires c κs = search needs
 
--- src/lib.rt:121:29
 lower-requires : tie.Need-lower-requires
 lower-requires c κs = search needs
 
--- src/lib.rt:119:25
 lower-requires-2 : tie.Need-lower-requires-2
 lower-requires-2 c κs = search needs
 
--- src/lib.rt:117:21
 lower-requires-3 : tie.Need-lower-requires-3
 lower-requires-3 c κs = search needs
 
--- src/lib.rt:115:17
 lower-requires-4 : tie.Need-lower-requires-4
 lower-requires-4 c κs = search needs
 
--- src/lib.rt:113:13
 lower-requires-5 : tie.Need-lower-requires-5
 lower-requires-5 c κs = search needs
 
--- src/lib.rt:111:9
 lower-requires-6 : tie.Need-lower-requires-6
 lower-requires-6 c κs = search needs
 
--- src/lib.rt:109:5
 lower-requires-7 : tie.Need-lower-requires-7
 lower-requires-7 c κs = search needs
 
--- src/lib.rt:103:1
 returns : tie.Need-returns
 unfolding moveRefusal testsOf
 returns c =

@@ -1,3 +1,4 @@
+-- `with_change`: each variant is its case of the definition. Assumes nothing.
 use mathlib.Core.Path.{sym, ap, _∙_}
 use Rattle.multibody_joint.specs.declared.Joint.{Joint}
 use Rattle.one_link_move.specs.declared.Change.{Change}
@@ -5,37 +6,27 @@ use Rattle.one_link_move.specs.Change.{changed, withInputs}
 use borrow.Author.Needs.{needs}
 use Rattle.one_link_move.proofs.with_change.Statement.{statement}
 use Rattle.one_link_move.proofs.with_change.Tie as tie
-use Rattle.one_link_move.proofs.with_change.Reads as reads
-use Rattle.one_link_move.proofs.with_change.Lts as lts
-use Rattle.one_link_move.proofs.with_coordinate.Reads as with-coordinate-reads
 
--- src/lib.rt:156:30
 enum-known-change : tie.Need-enum-known-change
 enum-known-change c = search needs
 
--- src/lib.rt:157:13
 with-coordinate-requires : tie.Need-with-coordinate-requires
 with-coordinate-requires c κs = search needs
 
--- src/lib.rt:160:26
 enum-known-change-2 : tie.Need-enum-known-change-2
 enum-known-change-2 c = search needs
 
--- src/lib.rt:166:24
 enum-known-change-3 : tie.Need-enum-known-change-3
 enum-known-change-3 c = search needs
 
--- src/lib.rt:150:1
 returns : tie.Need-returns
 unfolding changed
 returns c = let l = c .before .before .before .before .before .args .l in ap (λ (j : Joint). withInputs l j (l .centre)) (c .with-coordinate .ensures) ∙ sym (ap (λ (h : Change). changed h l) (c .before .before .change .given .1))
 
--- src/lib.rt:150:1
 returns-2 : tie.Need-returns-2
 unfolding changed
 returns-2 c = sym (ap (λ (h : Change). changed h (c .before .before .before .before .args .l)) (c .before .change2 .given .1))
 
--- src/lib.rt:150:1
 returns-3 : tie.Need-returns-3
 unfolding changed
 returns-3 c = sym (ap (λ (h : Change). changed h (c .before .before .before .before .args .l)) (c .before .change3 .given .1))

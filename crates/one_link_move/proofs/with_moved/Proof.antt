@@ -1,38 +1,29 @@
+-- `with_moved`: the link's place is changed, or there is none. Assumes nothing.
 use native.Mathlib.Omega.{arith}
 use Rattle.arm.proofs.Shape.{links-length}
 use Rattle.one_link_move.proofs.Sets.{moved-past, moved-there}
 use borrow.Author.Needs.{needs}
 use Rattle.one_link_move.proofs.with_moved.Statement.{statement}
 use Rattle.one_link_move.proofs.with_moved.Tie as tie
-use Rattle.one_link_move.proofs.with_moved.Reads as reads
-use Rattle.one_link_move.proofs.with_moved.Lts as lts
-use Rattle.one_link_move.proofs.with_change.Reads as with-change-reads
 
--- src/lib.rt:178:9
 returns : tie.Need-returns
 returns c = let a = c .before .args .arm in moved-past a (c .before .args .link) (c .before .args .change) (omega (arith, links-length a (c .before .good .0)))
 
--- src/lib.rt:181:13
 mul-l : tie.Need-mul-l
 mul-l c = search needs
 
--- src/lib.rt:181:13
 array-copy-out-l : tie.Need-array-copy-out-l
 array-copy-out-l c = search needs
 
--- src/lib.rt:182:19
 with-change-requires : tie.Need-with-change-requires
 with-change-requires c κs = search needs
 
--- src/lib.rt:182:5
 mul-links : tie.Need-mul-links
 mul-links c = search needs
 
--- src/lib.rt:182:5
 array-set-from-links : tie.Need-array-set-from-links
 array-set-from-links c = search needs
 
--- src/lib.rt:174:1
 returns-2 : tie.Need-returns-2
 returns-2 c = moved-there (c .before .before .before .before .args .arm) (c .before .before .before .before .args .link) (c .before .before .before .before .args .change) _ _ (c .with-change .ensures)
 

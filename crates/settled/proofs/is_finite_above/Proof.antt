@@ -1,21 +1,16 @@
+-- `is_finite_above`: none for a first link, else its parent's block. Assumes nothing.
 use mathlib.Core.Path.{_∙_}
 use Rattle.settled.proofs.Block.{first, later}
 use borrow.Author.Needs.{needs}
 use Rattle.settled.proofs.is_finite_above.Statement.{statement}
 use Rattle.settled.proofs.is_finite_above.Tie as tie
-use Rattle.settled.proofs.is_finite_above.Reads as reads
-use Rattle.settled.proofs.is_finite_above.Lts as lts
-use Rattle.settled.proofs.is_finite_block.Reads as is-finite-block-reads
 
--- src/lib.rt:28:9
 returns : tie.Need-returns
 returns c = first (c .before .before .args .link) (c .before .before .args .parent) (c .before .before .args .tables .now) (c .if1 .taken)
 
--- src/lib.rt:30:5
 is-finite-block-requires : tie.Need-is-finite-block-requires
 is-finite-block-requires c κs = search needs
 
--- src/lib.rt:24:1
 returns-2 : tie.Need-returns-2
 returns-2 c = c .is-finite-block .ensures ∙ later (c .before .before .before .args .link) (c .before .before .before .args .parent) (c .before .before .before .args .tables .now) (c .before .if1 .left)
 

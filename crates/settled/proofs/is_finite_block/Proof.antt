@@ -1,66 +1,49 @@
+-- `is_finite_block`: the block is lent whole, cut short, or not at all. Assumes nothing.
 use mathlib.Core.Path.{_∙_}
-use native.Mathlib.Omega.{arith}
 use Rattle.settled.proofs.Block.{whole, cut, none}
 use borrow.Author.Needs.{needs}
 use Rattle.settled.proofs.is_finite_block.Statement.{statement}
 use Rattle.settled.proofs.is_finite_block.Tie as tie
-use Rattle.settled.proofs.is_finite_block.Reads as reads
-use Rattle.settled.proofs.is_finite_block.Lts as lts
-use Rattle.floats.proofs.all_finite.Reads as all-finite-reads
 
--- src/lib.rt:11:14
 mul-at : tie.Need-mul-at
 mul-at c = search needs
 
--- src/lib.rt:12:15
 add-end : tie.Need-add-end
 add-end c = search needs
 
--- src/lib.rt:15:27
 mul-all-finite : tie.Need-mul-all-finite
 mul-all-finite c = search needs
 
--- src/lib.rt:15:27
 sub-all-finite : tie.Need-sub-all-finite
 sub-all-finite c = search needs
 
--- src/lib.rt:15:27
 part-all-finite-start : tie.Need-part-all-finite-start
 part-all-finite-start c = search needs
 
--- src/lib.rt:15:27
 part-all-finite-end : tie.Need-part-all-finite-end
 part-all-finite-end c = search needs
 
--- src/lib.rt:15:9
 all-finite-requires : tie.Need-all-finite-requires
 all-finite-requires c κs = search needs
 
--- src/lib.rt:15:9
 returns : tie.Need-returns
 returns c = c .all-finite .ensures ∙ whole (c .before .before .before .before .args .link) (c .before .before .before .before .args .tables .now)
 
--- src/lib.rt:18:27
 mul-all-finite-2 : tie.Need-mul-all-finite-2
 mul-all-finite-2 c = search needs
 
--- src/lib.rt:18:27
 part-all-finite-start-2 : tie.Need-part-all-finite-start-2
 part-all-finite-start-2 c = search needs
 
--- src/lib.rt:18:27
 part-all-finite-end-2 : tie.Need-part-all-finite-end-2
 part-all-finite-end-2 c = search needs
 
--- src/lib.rt:18:9
 all-finite-requires-2 : tie.Need-all-finite-requires-2
 all-finite-requires-2 c κs = search needs
 
--- src/lib.rt:18:9
 returns-2 : tie.Need-returns-2
 returns-2 c = c .all-finite2 .ensures ∙ cut (c .before .before .before .before .before .args .link) (c .before .before .before .before .before .args .tables .now) (c .before .before .before .if1 .left)
 
--- src/lib.rt:8:1
 returns-3 : tie.Need-returns-3
 returns-3 c = none (c .before .before .before .args .link) (c .before .before .before .args .tables .now) (c .if2 .left)
 
