@@ -15,6 +15,9 @@ use Rattle.topology.specs.Tables.{oneMore, countBelow}
 use Rattle.topology.proofs.Tables.{count-le}
 use Rattle.part_arm.specs.Gathered.{gathered, chosen, laidOver}
 
+pub length-over : {A : Type 0} (xs blanks : List A) → length xs ≤ length blanks → length (laidOver xs blanks) ≡ length blanks
+length-over xs blanks h = rw (length-append, length-drop) (omega arith)
+
 pub record Laid {A : Type 0} (g : ℕ → List A) (blanks : List A) (j : ℕ) (out : List A) (count : ℕ) : Type 0 where
   pub list : out ≡ laidOver (gathered j g) blanks
   pub counted : count ≡ length (gathered j g)
@@ -39,7 +42,7 @@ module _ {A : Type 0} (g : ℕ → List A) where
       laid-as out′ count′ e f = record { list = e ∙ t .list; counted = f ∙ t .counted }
 
       pub laid-length : count ≤ length blanks → length out ≡ length blanks
-      laid-length h = ap length (t .list) ∙ rw (length-append, length-drop) (omega (arith, t .counted))
+      laid-length h = ap length (t .list) ∙ length-over (gathered j g) blanks (omega (arith, t .counted))
 
       pub laid-skip : g j ≡ [] → Laid g blanks (j + 1) out count
       laid-skip e =

@@ -1,3 +1,3 @@
 pub mod Laid
 pub mod Maps
-mod Turns
+pub mod Turns

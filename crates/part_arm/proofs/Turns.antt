@@ -1,22 +1,21 @@
 -- One turn of each pass over an arm: what it gathers, and that there is room for it. Assumes nothing.
-use Prim.Native.Nat.{ℕ, zero, suc, min, _+_, _≤_, _<_}
+use Prim.Native.Nat.{ℕ, min, _+_, _≤_, _<_}
 use mathlib.Core.Path.{_≡_, refl, sym, ap, _∙_}
 use mathlib.Core.Bool.{Bool, true, false, cond}
-use mathlib.Core.List.{List, [], _∷_, _++_, map}
+use mathlib.Core.List.{List, [], _∷_, map}
 use native.Mathlib.Omega.{arith}
-use lib.ListN.{length, take, drop, getD, set, length-drop, length-append, length-take}
+use lib.ListN.{length, drop, getD, set, length-drop}
 use borrow.Author.Tests.{lt-leb}
 use lib.Seq.{length-take-le}
 use lib.Ieee.{Float}
 use Rattle.limits.specs.Limits.{linkLimit, couplingLimit, dofLimit, tableSize}
-use Rattle.floats.specs.Floats.{zero32}
 use Rattle.masks.specs.Masks.{dofsOf}
 use Rattle.arm.specs.declared.Link.{Link}
 use Rattle.arm.specs.declared.Coupling.{Coupling}
 use Rattle.arm.specs.declared.Row.{Row}
 use Rattle.arm.specs.declared.Arm.{Arm}
 use Rattle.arm.specs.declared.Edited.{Edited}
-use Rattle.arm.specs.Arm.{liveLinks, maskAt, startAt, dofCountOf}
+use Rattle.arm.specs.Arm.{liveLinks, maskAt, startAt}
 use Rattle.arm.proofs.Live.{dof-count-le, mask-there, start-more, start-within}
 use Rattle.kinematics.specs.Blocks.{part, withPart}
 use Rattle.kinematics.specs.State.{linkAt}
@@ -24,11 +23,10 @@ use Rattle.working.specs.Outcome.{Outcome, out}
 use Rattle.working.specs.Empty.{blankRow, emptyArm, emptied}
 use Rattle.part_arm.specs.declared.LinksOut.{LinksOut}
 use Rattle.part_arm.specs.declared.CouplingsOut.{CouplingsOut}
-use Rattle.part_arm.specs.Gathered.{gathered, laidOver}
 use Rattle.part_arm.specs.Places.{Places, goesOn}
 use Rattle.part_arm.specs.Part.{newLink, partLinks, ownEntries, partEntries, partRow, couplingAt, couplingStays, newCoupling, partCouplings, partArm}
 use Rattle.part_arm.specs.Coded.{linksOut, couplingsOut}
-use Rattle.part_arm.proofs.Laid.{Laid, gathered-none, gathered-more, chosen-le, laid-none, laid-as, laid-skip, laid-one, laid-part}
+use Rattle.part_arm.proofs.Laid.{Laid, chosen-le, laid-as, laid-skip, laid-one, laid-part}
 
 -- ---- blank places
 

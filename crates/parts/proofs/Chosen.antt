@@ -1,44 +1,36 @@
 -- The places that the code reads off the map are those of the split rule, on every link and coupling that counts. Assumes nothing.
-use Prim.Native.Nat.{ℕ, zero, suc, min, _+_, _*_, _≤_, _<_}
-use mathlib.Core.Path.{_≡_, refl, sym, ap, subst, _∙_}
-use mathlib.Core.Bool.{Bool, true, false, _&&_}
-use mathlib.Core.List.{List, [], _∷_, _++_}
+use Prim.Native.Nat.{ℕ, min, _+_, _*_, _≤_, _<_}
+use mathlib.Core.Path.{_≡_, sym, ap, subst, _∙_}
+use mathlib.Core.Bool.{true, false}
+use mathlib.Core.List.{List, _++_}
 use native.Mathlib.Omega.{arith}
 use borrow.Author.Tests.{ltb-true}
-use lib.ListN.{length, take, getD}
+use lib.ListN.{length, take}
 use lib.Seq.{getD-take, length-take-le}
 use Rattle.limits.specs.Limits.{linkLimit, couplingLimit}
 use Rattle.topology.specs.declared.Split.{Split}
-use Rattle.topology.specs.Parents.{parentOf, parentsFit}
-use Rattle.topology.specs.Split.{isHead, partCount, partOf, isIn, splitMap}
-use Rattle.topology.specs.Words.{Survivor}
+use Rattle.topology.specs.Parents.{parentOf}
+use Rattle.topology.specs.Split.{isHead, partCount, isIn, splitMap}
 use Rattle.topology.proofs.Theorems.{with-parent}
-use Rattle.arm.specs.declared.Link.{Link}
 use Rattle.arm.specs.declared.Arm.{Arm}
 use Rattle.arm.specs.Arm.{liveLinks, linksOf, couplingsOf, parentsOf}
 use Rattle.arm.specs.Arm as arm-specs
-use Rattle.arm.specs.HandedIn.{every, couplingLinksFit, countsFit, tagsUnique, linkNumbersFit, parentsEarlier, couplingsLinksFit, masksAndAxesFit, floatsFinite, anglesFit, armEntries, armRefusal}
+use Rattle.arm.specs.HandedIn.{couplingLinksFit, parentsEarlier, couplingsLinksFit, armRefusal}
 use Rattle.arm.proofs.Lists.{map-at}
-use Rattle.arm.proofs.Accepted.{first-holds, rest-accepted, both-hold}
+use Rattle.arm.proofs.Accepted.{both-hold}
 use Rattle.kinematics.specs.State.{linkAt, noLink}
 use Rattle.part_arm.specs.Places.{placesOf, placesIn}
-use Rattle.refusal.specs.Refusal.{unlessOf}
 use Rattle.part_arm.specs.Part.{noCoupling, couplingAt, partArm}
 use Rattle.parts.proofs.Heads.{in-survives, in-part, is-in, here-read, number-read, head-read}
 use Rattle.parts.proofs.Same.{Agree, part-same}
 use Rattle.parts.proofs.Refused.{parents-live, Whole, accepted-whole, part-accepted, part-map}
 use Rattle.working.specs.Outcome.{workedAll}
 use Rattle.working.proofs.Refused.{accepted as go-on}
+use Rattle.working.proofs.Tests.{passes, each-passes}
 use Rattle.parts.specs.Answers.{partRefusal, armPart}
 use Rattle.topology.specs.declared.Counted.{Counted}
 use Rattle.topology.specs.Answers.{out as mapped, splitAnswer}
 use lib.Ieee.{Float}
-
-pub every-at : {A : Type 0} (test : A → Bool) (xs : List A) (i : ℕ) (d : A) → every test xs ≡ true → i < length xs → test (getD xs i d) ≡ true
-unfolding every
-every-at test [] i d e h = absurd (omega arith)
-every-at test (x ∷ xs) zero d e h = both-hold (test x) (every test xs) e .0
-every-at test (x ∷ xs) (suc i) d e h = every-at test xs i d (both-hold (test x) (every test xs) e .1) (omega arith)
 
 module _ (a : Arm) (whole : length (a .links) ≡ linkLimit) (all : length (a .couplings) ≡ couplingLimit) where
   pub link-parent : (j : ℕ) → j < liveLinks a → parentOf (parentsOf a) j ≡ linkAt (a .links) j .parent
@@ -47,19 +39,12 @@ module _ (a : Arm) (whole : length (a .links) ≡ linkLimit) (all : length (a .c
       map-at arm-specs.parentOf (take (liveLinks a) (a .links)) j noLink 0 (omega (arith, length-take-le (liveLinks a) (a .links) (omega arith)))
       ∙ ap arm-specs.parentOf (getD-take (liveLinks a) (a .links) j noLink h)
 
-  numbers-accepted : armRefusal a ≡ 0 → linkNumbersFit a ≡ true
-  unfolding armRefusal armEntries
-  numbers-accepted e =
-      let tests = unlessOf (linkNumbersFit a) 4 ∷ unlessOf (masksAndAxesFit a) 5 ∷ unlessOf (floatsFinite a) 7 ∷ unlessOf (anglesFit a) 9 ∷ [] in
-      first-holds (linkNumbersFit a) 3 (unlessOf (masksAndAxesFit a) 5 ∷ unlessOf (floatsFinite a) 7 ∷ unlessOf (anglesFit a) 9 ∷ [])
-      (rest-accepted (unlessOf (tagsUnique a) 3) tests (rest-accepted (unlessOf (countsFit a) 2) (unlessOf (tagsUnique a) 3 ∷ tests) e))
-
   pub coupling-links : armRefusal a ≡ 0 → (i : ℕ) → i < min (a .«coupling_count») couplingLimit → (couplingAt a i .link1 < a .«link_count») × (couplingAt a i .link2 < a .«link_count»)
   unfolding couplingsOf couplingLinksFit
   coupling-links e i h =
-      let fits = both-hold (parentsEarlier a) (couplingsLinksFit a) (numbers-accepted e) .1 in
+      let fits = both-hold (parentsEarlier a) (couplingsLinksFit a) (passes a e .numbers) .1 in
       let n = min (a .«coupling_count») couplingLimit in
-      let one = every-at (couplingLinksFit (a .«link_count»)) (take n (a .couplings)) i noCoupling fits (omega (arith, length-take-le n (a .couplings) (omega arith))) in
+      let one = each-passes (couplingLinksFit (a .«link_count»)) (take n (a .couplings)) noCoupling fits i (omega (arith, length-take-le n (a .couplings) (omega arith))) in
       let both = both-hold _ _ (rw (getD-take n (a .couplings) i noCoupling h) at one) in
       (ltb-true _ _ (both .0), ltb-true _ _ (both .1))
 

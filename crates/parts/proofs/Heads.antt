@@ -1,25 +1,25 @@
 -- The first of a part is its head: any other survivor comes after its parent, and no earlier link has a head's rank. Assumes nothing.
 use Prim.Native.Nat.{ℕ, zero, suc, _+_, _*_, _≤_, _<_}
-use mathlib.Core.Path.{_≡_, refl, sym, ap, subst, _∙_}
+use mathlib.Core.Path.{_≡_, refl, sym, ap, _∙_}
 use mathlib.Core.Bool.{Bool, true, false, cond, _&&_}
-use mathlib.Core.List.{List, [], _∷_, _++_}
+use mathlib.Core.List.{List, _++_}
 use native.Mathlib.Omega.{arith}
 use borrow.Author.Tests.{eqb-true, eq-eqb, ne-eqb}
 use lib.Dec.{eqb}
-use lib.ListN.{length, getD, List·getD-append}
+use lib.ListN.{length, List·getD-append}
 use Rattle.limits.specs.Limits.{linkLimit}
 use Rattle.topology.specs.declared.Split.{Split}
 use Rattle.topology.specs.Tables.{oneMore, countBelow}
 use Rattle.topology.specs.Parents.{parentOf, parentsFit}
 use Rattle.topology.specs.Split.{survives, isHead, rank, partCount, nearestHead, partOf, isIn, numberOf, gone, partByte, numberByte, splitMap}
 use Rattle.topology.specs.Words.{Survivor}
-use Rattle.topology.proofs.Small.{differ, and-left, and-right}
+use Rattle.topology.proofs.Small.{and-left, and-right}
 use Rattle.topology.proofs.Tables.{count-le, count-lt}
 use Rattle.topology.proofs.Fitting.{earlier}
 use Rattle.topology.proofs.Pass.{part-head}
 use Rattle.topology.proofs.Mapped.{map-length}
 use Rattle.topology.proofs.Above.{above-le}
-use Rattle.topology.proofs.Theorems.{map-at, with-parent, nearest-head, part-in-count}
+use Rattle.topology.proofs.Theorems.{map-at, with-parent, nearest-head}
 use Rattle.part_arm.specs.Places.{partIn, numberIn, hereIn, headIn}
 use Rattle.part_arm.proofs.Maps.{same-default}
 

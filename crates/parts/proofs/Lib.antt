@@ -4,3 +4,4 @@ pub mod Refused
 pub mod Chosen
 pub mod Picked
 pub mod Passing
+pub mod Theorems

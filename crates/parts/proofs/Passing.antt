@@ -1,26 +1,25 @@
 -- A part of an accepted arm passes every test of an arm handed in: its first link is a head, every other one's parent is earlier, and what is kept passed
 -- before. Assumes nothing.
 use Prim.Native.Nat.{ℕ, zero, suc, min, _+_, _≤_, _<_}
-use mathlib.Core.Path.{_≡_, refl, sym, ap, ap₂, subst, _∙_}
-use mathlib.Core.Bool.{Bool, true, false, cond, not, _&&_, _||_}
+use mathlib.Core.Path.{_≡_, refl, sym, ap, ap₂, _∙_}
+use mathlib.Core.Bool.{Bool, true, false, cond, _&&_}
 use mathlib.Core.List.{List, [], _∷_, _++_, map}
 use native.Mathlib.Omega.{arith}
 use borrow.Author.Tests.{le-leb, lt-ltb}
-use lib.Dec.{eqb, leb, ltb}
+use lib.Dec.{leb}
 use lib.ListN.{length, take, drop, getD, replicate, length-map}
 use lib.Seq.{take-at, getD-take, length-take-le}
-use lib.Ieee.{Float, nan, inf, fin, lt, ofBits}
+use lib.Ieee.{Float, lt, ofBits}
 use Rattle.limits.specs.Limits.{linkLimit, couplingLimit, dofLimit}
 use Rattle.floats.specs.Floats.{zero32, isFinite, allFinite}
 use Rattle.masks.specs.Masks.{dofsOf}
 use Rattle.masks.specs.Starts.{totalOf, startOf}
 use Rattle.masks.proofs.Totals.{start-in}
 use Rattle.topology.specs.declared.Split.{Split}
-use Rattle.topology.specs.Tables.{each, allBelow, countBelow}
+use Rattle.topology.specs.Tables.{each, countBelow}
 use Rattle.topology.specs.Parents.{parentOf, parentFits, parentsFit}
-use Rattle.topology.specs.Split.{isHead, partCount, partOf, isIn, numberOf}
-use Rattle.topology.specs.Words.{Survivor}
-use Rattle.topology.proofs.Tables.{count-le, count-lt, count-at}
+use Rattle.topology.specs.Split.{isHead, isIn, numberOf}
+use Rattle.topology.proofs.Tables.{count-lt, count-at}
 use Rattle.topology.proofs.Theorems.{with-parent}
 use Rattle.planar.specs.declared.Pose.{Pose}
 use Rattle.planar.specs.Rotation.{isBeyond}
@@ -32,25 +31,24 @@ use Rattle.arm.specs.declared.Row.{Row}
 use Rattle.arm.specs.declared.Arm.{Arm}
 use Rattle.arm.specs.Arm.{liveLinks, linksOf, couplingsOf, tagOf, lockedOf, tagsOf, parentsOf, masksOf, maskAt, startAt, dofCountOf, entriesTo, rowsOf}
 use Rattle.arm.specs.Arm as arm-specs
-use Rattle.arm.specs.HandedIn.{every, unique, tagsUnique, parentsEarlier, couplingLinksFit, couplingsLinksFit, jointMasksFit, linkMasksFit, rootMaskFits, rootFits, couplingAxesFit, jointFinite, linkFinite, couplingFinite, rowsFinite, angleFits, linkAngleFits, armRefusal}
+use Rattle.arm.specs.HandedIn.{every, unique, tagsUnique, parentsEarlier, couplingLinksFit, jointMasksFit, linkMasksFit, rootMaskFits, rootFits, couplingAxesFit, jointFinite, linkFinite, couplingFinite, rowsFinite, angleFits, linkAngleFits, armRefusal}
 use Rattle.arm.proofs.Accepted.{both-hold}
-use Rattle.arm.proofs.Every.{every-map}
 use Rattle.arm.proofs.Lists.{map-at}
 use Rattle.arm.proofs.Live.{links-live, masks-live}
 use Rattle.kinematics.specs.State.{linkAt, noLink}
 use Rattle.kinematics.proofs.Blocks.{take-drop-take}
-use Rattle.working.specs.Empty.{blankRow, emptyArm}
-use Rattle.working.proofs.Tests.{Passes, passes, not-refused, both, each-passes, all-pass, link-passes}
+use Rattle.working.specs.Empty.{blankRow}
+use Rattle.working.proofs.Tests.{Passes, passes, not-refused, both, each-passes, link-passes}
 use Rattle.part_arm.specs.Gathered.{gathered, chosen, laidOver}
 use Rattle.part_arm.specs.Places.{Places, placesOf, goesOn}
 use Rattle.part_arm.specs.Part.{newLink, partLinks, ownEntries, partEntries, partRow, noCoupling, couplingAt, couplingStays, newCoupling, partCouplings, partArm}
 use Rattle.part_arm.proofs.Laid.{chosen-le, length-chosen}
 use Rattle.parts.specs.Words.{Sized, PartPasses}
-use Rattle.parts.proofs.Heads.{in-survives, in-part, head-first}
+use Rattle.parts.proofs.Heads.{in-survives, in-part, head-first, first-head}
 use Rattle.parts.proofs.Same.{gathered-same}
 use Rattle.parts.proofs.Refused.{parents-live, Whole, accepted-whole}
 use Rattle.parts.proofs.Chosen.{link-parent, coupling-links}
-use Rattle.parts.proofs.Picked.{all-below, every-gathered, every-chosen, chosen-at, map-chosen, some-unique, is-each}
+use Rattle.parts.proofs.Picked.{all-below, every-chosen, chosen-at, map-chosen, some-unique, is-each}
 
 -- ---- one link, one coupling
 
@@ -270,3 +268,121 @@ module _ (a : Arm) (s : Split) (k : ℕ) (sized : Sized a) (accepted : armRefusa
       (all-below _ _ (λ i h.
       let l : i < length (partLinks p a) = omega (arith, length-map (partLinks p a) arm-specs.parentOf) in
       ap (parentFits i) (map-at arm-specs.parentOf (partLinks p a) i noLink 0 l) ∙ parent-fits i l))
+
+  -- a coupling that stays names links of the part
+  stays-here : (c : Coupling) → couplingStays p c ≡ true → (isIn ps s k (c .link1) ≡ true) × (isIn ps s k (c .link2) ≡ true)
+  unfolding couplingStays
+  stays-here c e =
+      let h = both-hold (goesOn p (c .link1)) (goesOn p (c .link2)) e in
+      (both-hold _ _ (h .0) .0, both-hold _ _ (h .1) .0)
+
+  below : (j : ℕ) → j < n → isIn ps s k j ≡ true → numberOf ps s j < length (partLinks p a)
+  below j h e = omega (arith, number-is j e, link-count, count-lt (isIn ps s k) j n h e)
+
+  coupling-fits : (i : ℕ) → i < min (a .«coupling_count») couplingLimit → couplingStays p (couplingAt a i) ≡ true
+      → couplingLinksFit (length (partLinks p a)) (newCoupling (numberOf ps s) (couplingAt a i)) ≡ true
+  unfolding couplingLinksFit newCoupling
+  coupling-fits i h e =
+      let l = coupling-links a (sized .links) (sized .couplings) accepted i h in
+      let q = stays-here (couplingAt a i) e in
+      both (lt-ltb _ _ (below (couplingAt a i .link1) (omega (arith, whole .few)) (q .0))) (lt-ltb _ _ (below (couplingAt a i .link2) (omega (arith, whole .few)) (q .1)))
+
+  -- a test that a coupling's new numbers leave alone
+  couplings-pass : (test : Coupling → Bool) → ((i : ℕ) → i < min (a .«coupling_count») couplingLimit → couplingStays p (couplingAt a i) ≡ true → test (newCoupling (numberOf ps s) (couplingAt a i)) ≡ true)
+      → every test (couplingsOf (partArm p a)) ≡ true
+  unfolding partCouplings
+  couplings-pass test f =
+      rw (part-couplings p a)
+      (every-chosen test (min (a .«coupling_count») couplingLimit) (λ i. couplingStays p (couplingAt a i)) (λ i. newCoupling (numberOf ps s) (couplingAt a i)) f)
+
+  -- each old coupling passed
+  coupling-passed : (test : Coupling → Bool) → every test (couplingsOf a) ≡ true → (i : ℕ) → i < min (a .«coupling_count») couplingLimit → test (couplingAt a i) ≡ true
+  unfolding couplingsOf
+  coupling-passed test e i h =
+      let m = min (a .«coupling_count») couplingLimit in
+      sym (ap test (getD-take m (a .couplings) i noCoupling h))
+      ∙ each-passes test (take m (a .couplings)) noCoupling e i (omega (arith, length-take-le m (a .couplings) (omega (arith, sized .couplings))))
+
+  -- ---- 5
+
+  root : rootFits (partArm p a) ≡ true
+  unfolding rootFits masksOf
+  root =
+      rw (part-links p a)
+      (root-seven (map lockedOf (partLinks p a)) (λ h.
+      let l : 0 < length (partLinks p a) = omega (arith, length-map (partLinks p a) lockedOf) in
+      map-at lockedOf (partLinks p a) 0 noLink 7 l ∙ first l))
+    where
+      first : 0 < length (partLinks p a) → getD (partLinks p a) 0 noLink .joint .locked ≡ 7
+      first l =
+          let o = stands 0 l in
+          let z : isHead ps s (o .old) ≡ true = sym (first-head ps s (whole .fit) (o .old) (omega (arith, o .there, long), in-survives ps s (whole .fit) k (o .old) (o .here))) ∙ rw (o .number) in
+          ap lockedOf (o .link noLink) ∙ rw z (head-locked _ (at (o .old)))
+
+  axes : (i : ℕ) → couplingAxesFit (newCoupling (numberOf ps s) (couplingAt a i)) ≡ couplingAxesFit (couplingAt a i)
+  unfolding couplingAxesFit newCoupling
+  axes i = refl
+
+  -- ---- 7
+
+  coefficients : (i : ℕ) → couplingFinite (newCoupling (numberOf ps s) (couplingAt a i)) ≡ couplingFinite (couplingAt a i)
+  unfolding couplingFinite newCoupling
+  coefficients i = refl
+
+  own-finite : (entries : List Float) → allFinite (take (dofCountOf a) entries) ≡ true → (j : ℕ) → j < n → allFinite (ownEntries a entries j) ≡ true
+  unfolding ownEntries dofCountOf startAt maskAt
+  own-finite entries e j h =
+      let m = masksOf a in
+      let fits = start-in m j 7 (omega (arith, masks-live a (sized .links))) in
+      ap allFinite (sym (take-drop-take (startOf m j) (dofsOf (getD m j 7)) (totalOf m) entries fits))
+      ∙ finite-take (dofsOf (getD m j 7)) (drop (startOf m j) (take (totalOf m) entries)) (finite-drop (startOf m j) (take (totalOf m) entries) e)
+
+  row-finite : (row : Row) → allFinite (entriesTo (dofCountOf a) row) ≡ true → (d : ℕ) → allFinite (entriesTo d (partRow p a row)) ≡ true
+  unfolding partRow partEntries
+  row-finite row e d =
+      let kept = partEntries p a (row .entries) in
+      finite-take d (laidOver kept (blankRow .entries))
+      (finite-join kept (drop (length kept) (blankRow .entries))
+      (finite-gathered n (λ j. cond (goesOn p j) (ownEntries a (row .entries) j) []) (λ j h. go j h (goesOn p j)))
+      (finite-drop (length kept) (blankRow .entries) (zeros-finite dofLimit)))
+    where
+      go : (j : ℕ) → j < n → (b : Bool) → allFinite (cond b (ownEntries a (row .entries) j) []) ≡ true
+      go j h true = own-finite (row .entries) e j h
+      go j h false = refl
+
+  rows-finite : (d : ℕ) (rows : List Row) → every allFinite (map (entriesTo (dofCountOf a)) rows) ≡ true → every allFinite (map (entriesTo d) (map (partRow p a) rows)) ≡ true
+  unfolding every
+  rows-finite d [] e = refl
+  rows-finite d (row ∷ rows) e =
+      let h = both-hold (allFinite (entriesTo (dofCountOf a) row)) (every allFinite (map (entriesTo (dofCountOf a)) rows)) e in
+      both (row-finite row (h .0) d) (rows-finite d rows (h .1))
+
+  rows : rowsFinite (partArm p a) ≡ true
+  unfolding rowsFinite rowsOf partArm
+  rows = rows-finite (dofCountOf (partArm p a)) (a .rows) (both-hold (every linkFinite (linksOf a) && every couplingFinite (couplingsOf a)) (rowsFinite a) (before .floats) .1)
+
+  -- ---- all
+
+  part-passes : Passes (partArm p a)
+  unfolding partArm
+  part-passes =
+      let five = both-hold _ (every couplingAxesFit (couplingsOf a)) (before .masks) in
+      let seven = both-hold _ (rowsFinite a) (before .floats) in
+      let each-float = both-hold (every linkFinite (linksOf a)) (every couplingFinite (couplingsOf a)) (seven .0) in
+      record {
+        counts = counts;
+        tags = tags;
+        numbers = both parents (couplings-pass (couplingLinksFit (length (partLinks p a))) coupling-fits);
+        masks =
+            both
+            (both (new-passes linkMasksFit new-masks (both-hold (every linkMasksFit (linksOf a)) (rootFits a) (five .0) .0)) root)
+            (couplings-pass couplingAxesFit (λ i h e. axes i ∙ coupling-passed couplingAxesFit (five .1) i h));
+        floats =
+            both
+            (both (new-passes linkFinite new-finite (each-float .0)) (couplings-pass couplingFinite (λ i h e. coefficients i ∙ coupling-passed couplingFinite (each-float .1) i h)))
+            rows;
+        angles = new-passes linkAngleFits new-angle (before .angles);
+      }
+
+pub passing : PartPasses
+passing a s k sized accepted = not-refused (partArm (placesOf a s k) a) (part-passes a s k sized accepted)

@@ -1,13 +1,13 @@
 -- Lists chosen from the first n: what holds of each chosen one, where each stands, and that what differs still differs. Assumes nothing.
-use Prim.Native.Nat.{ℕ, zero, suc, _+_, _≤_, _<_}
+use Prim.Native.Nat.{ℕ, zero, suc, _+_, _<_}
 use mathlib.Core.Path.{_≡_, refl, sym, ap, ap₂, subst, _∙_}
-use mathlib.Core.Bool.{Bool, true, false, cond, _&&_}
+use mathlib.Core.Bool.{Bool, true, false, cond}
 use mathlib.Core.List.{List, [], _∷_, _++_, map, map-append, append-nil}
 use native.Mathlib.Omega.{arith}
 use native.Mathlib.Decide.{decLt}
-use lib.ListN.{length, take, getD, length-map, List·getD-append}
+use lib.ListN.{length, getD, List·getD-append}
 use lib.Seq.{getD-at, ext-getD}
-use Rattle.topology.specs.Tables.{each, allBelow, oneMore, countBelow}
+use Rattle.topology.specs.Tables.{each, allBelow, countBelow}
 use Rattle.topology.proofs.Tables.{count-lt, length-each, getD-each}
 use Rattle.arm.specs.HandedIn.{every, differs, isNew, unique}
 use Rattle.arm.proofs.Accepted.{both-hold}

@@ -1,16 +1,16 @@
 -- The refusals: the bare list's own, an arm that breaks rule 4 or an earlier one being refused by no more than 4 in any case. Assumes nothing.
 use Prim.Native.Nat.{ℕ, zero, suc, min, _+_, _*_, _/_, _≤_, _<_}
-use mathlib.Core.Path.{_≡_, refl, sym, ap, ap₂, _∙_}
-use mathlib.Core.Bool.{Bool, true, false, cond, _&&_}
+use mathlib.Core.Path.{_≡_, refl, sym, ap, _∙_}
+use mathlib.Core.Bool.{Bool, true, false, _&&_}
 use mathlib.Core.Logic.{_⊎_, inl, inr}
 use mathlib.Core.List.{List, [], _∷_, _++_}
 use native.Mathlib.Omega.{arith}
-use borrow.Author.Tests.{leb-true, ltb-true, le-leb, lt-leb, le-ltb, lt-ltb}
+use borrow.Author.Tests.{leb-true, ltb-true, le-leb, le-ltb, lt-ltb}
 use lib.Dec.{leb, ltb}
 use lib.ListN.{length, drop, length-map}
 use lib.Ieee.{Float}
-use Rattle.limits.specs.Limits.{linkLimit, couplingLimit}
-use Rattle.refusal.specs.Refusal.{unlessOf, lowerOf, lowest, In}
+use Rattle.limits.specs.Limits.{linkLimit}
+use Rattle.refusal.specs.Refusal.{unlessOf, lowerOf, In}
 use Rattle.refusal.proofs.Laws.{is-lowest}
 use Rattle.topology.specs.declared.Counted.{Counted}
 use Rattle.topology.specs.declared.Split.{Split}
@@ -22,10 +22,10 @@ use Rattle.working.specs.Outcome.{tablesFit}
 use Rattle.topology.specs.Answers.{Outcome, out, given, refusalOf, splitAnswer}
 use Rattle.arm.specs.declared.Arm.{Arm}
 use Rattle.arm.specs.Arm.{liveLinks, linksOf, parentOf, parentsOf}
-use Rattle.arm.specs.HandedIn.{countsFit, couplingsLinksFit, parentsEarlier, linkNumbersFit, armEntries, armRefusal}
+use Rattle.arm.specs.HandedIn.{countsFit, parentsEarlier, armEntries, armRefusal}
 use Rattle.arm.proofs.Live.{links-live}
 use Rattle.arm.proofs.Accepted.{first-holds, rest-accepted}
-use Rattle.parts.specs.Answers.{splitRefusal, armSplit, partRefusal, armPart}
+use Rattle.parts.specs.Answers.{splitRefusal, armSplit, partRefusal}
 
 -- ---- an answer of the bare list, in its fields
 

@@ -1,10 +1,9 @@
 -- Places that agree on the links that count give the same part. Assumes nothing.
-use Prim.Native.Nat.{ℕ, zero, suc, min, _+_, _≤_, _<_}
-use mathlib.Core.Path.{_≡_, refl, sym, ap, ap₂, _∙_}
+use Prim.Native.Nat.{ℕ, zero, suc, min, _+_, _<_}
+use mathlib.Core.Path.{_≡_, refl, ap, ap₂}
 use mathlib.Core.Bool.{Bool, true, false, cond, not, _&&_}
 use mathlib.Core.List.{List, [], _∷_, _++_, map}
 use native.Mathlib.Omega.{arith}
-use lib.ListN.{length}
 use lib.Ieee.{Float}
 use Rattle.limits.specs.Limits.{couplingLimit}
 use Rattle.topology.proofs.Small.{and-left, and-right}
@@ -14,7 +13,7 @@ use Rattle.arm.specs.declared.Row.{Row}
 use Rattle.arm.specs.declared.Arm.{Arm}
 use Rattle.arm.specs.Arm.{liveLinks}
 use Rattle.kinematics.specs.State.{linkAt}
-use Rattle.part_arm.specs.Gathered.{gathered, laidOver}
+use Rattle.part_arm.specs.Gathered.{gathered}
 use Rattle.part_arm.specs.Places.{Places, goesOn}
 use Rattle.part_arm.specs.Part.{rejoined, newLink, partLinks, ownEntries, partEntries, partRow, couplingAt, couplingStays, newCoupling, partCouplings, partArm}
 

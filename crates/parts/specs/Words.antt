@@ -1,15 +1,14 @@
 -- What is promised of every part that is handed out.
-use Prim.Native.Nat.{ℕ, _<_}
+use Prim.Native.Nat.{ℕ}
 use mathlib.Core.Path.{_≡_}
-use mathlib.Core.List.{List, map}
+use mathlib.Core.List.{List}
 use lib.ListN.{length}
 use lib.Ieee.{Float}
 use Rattle.limits.specs.Limits.{linkLimit, couplingLimit, dofLimit}
 use Rattle.masks.specs.Starts.{totalOf}
 use Rattle.topology.specs.declared.Split.{Split}
-use Rattle.topology.specs.Split.{partCount}
 use Rattle.arm.specs.declared.Arm.{Arm}
-use Rattle.arm.specs.Arm.{liveLinks, parentsOf, maskAt, dofCountOf}
+use Rattle.arm.specs.Arm.{liveLinks, maskAt, dofCountOf}
 use Rattle.arm.specs.HandedIn.{armRefusal}
 use Rattle.working.specs.Full.{Settled}
 use Rattle.part_arm.specs.Gathered.{chosen}
@@ -22,9 +21,9 @@ pub record Sized (a : Arm) : Type 0 where
   pub links : length (a .links) ≡ linkLimit
   pub couplings : length (a .couplings) ≡ couplingLimit
 
--- part k of an accepted arm passes every test of an arm handed in
+-- a part of an accepted arm passes every test of an arm handed in
 abbrev pub PartPasses : Type 0
-PartPasses = (a : Arm) (s : Split) (k : ℕ) → Sized a → armRefusal a ≡ 0 → k < partCount (parentsOf a) s → armRefusal (partArm (placesOf a s k) a) ≡ 0
+PartPasses = (a : Arm) (s : Split) (k : ℕ) → Sized a → armRefusal a ≡ 0 → armRefusal (partArm (placesOf a s k) a) ≡ 0
 
 -- a part that is handed out is settled over its tables: its full working is not refused, and changes no bit
 abbrev pub PartSettles : Type 0

@@ -1,22 +1,17 @@
-use Rattle.arm.specs.declared.Arm.{Arm}
+-- `couplings_out`: the couplings passed so far that stay stand in front, in order, and the count is theirs. Assumes nothing.
 use mathlib.Core.Logic.{⊎-elim}
 use native.Mathlib.Omega.{arith}
+use mathlib.Core.Path.{_≡_, refl, sym, ap, _∙_}
+use Prim.Native.Nat.{min, _-_, _≤_}
+use borrow.Author.Needs.{needs}
+use Rattle.arm.specs.declared.Arm.{Arm}
 use Rattle.part_arm.proofs.Turns.{couplingTurn, coupling-room, coupling-stays, coupling-lost, couplings-done}
 use Rattle.part_arm.proofs.Laid.{Laid, laid-none, laid-as}
 use Rattle.part_arm.specs.Places.{placesIn}
 use Rattle.working.specs.Empty.{emptyArm}
 use Rattle.limits.specs.Limits.{couplingLimit}
-use mathlib.Core.Path.{_≡_, refl, sym, ap, _∙_}
-use Prim.Native.Nat.{min, _-_, _≤_}
-use borrow.Author.Needs.{needs}
 use Rattle.part_arm.proofs.couplings_out.Statement.{statement}
 use Rattle.part_arm.proofs.couplings_out.Tie as tie
-use Rattle.part_arm.proofs.couplings_out.Reads as reads
-use Rattle.part_arm.proofs.couplings_out.Lts as lts
-use Rattle.part_arm.proofs.blank_arm.Reads as blank-arm-reads
-use Rattle.part_arm.proofs.coupling_stays.Reads as coupling-stays-reads
-use Rattle.part_arm.proofs.live_couplings.Reads as live-couplings-reads
-use Rattle.part_arm.proofs.new_coupling.Reads as new-coupling-reads
 
 abbrev Inv-loop : tie.InvT-loop
 Inv-loop places k arm n couplings₀ count₀ i₀ couplings count i = (n ≡ min (arm .«coupling_count») couplingLimit) × (i ≤ n) × Laid (couplingTurn (placesIn places k) arm) (emptyArm .couplings) i couplings count
@@ -24,55 +19,42 @@ Inv-loop places k arm n couplings₀ count₀ i₀ couplings count i = (n ≡ mi
 abbrev μ-loop : tie.MeasureT-loop
 μ-loop places k arm n couplings₀ count₀ i₀ couplings count i = n - i
 
--- src/lib.rt:219:9
 live-couplings-requires : tie.Need-live-couplings-requires Inv-loop μ-loop
 live-couplings-requires c κs = search needs
 
--- src/lib.rt:220:9
 blank-arm-requires : tie.Need-blank-arm-requires Inv-loop μ-loop
 blank-arm-requires c κs = search needs
 
--- src/lib.rt:224:5
 loop-holds : tie.Need-loop-holds Inv-loop μ-loop
 loop-holds c = (c .before .before .live-couplings .ensures, omega arith, laid-as (couplingTurn (placesIn (c .before .before .before .args .places) (c .before .before .before .args .k)) (c .before .before .before .args .t1)) (emptyArm .couplings) 0 (emptyArm .couplings) 0 (laid-none (couplingTurn (placesIn (c .before .before .before .args .places) (c .before .before .before .args .k)) (c .before .before .before .args .t1)) (emptyArm .couplings)) _ 0 (ap (λ (a : Arm). a .couplings) (c .before .blank-arm .ensures)) refl)
 
--- src/lib.rt:225:17
 mul-c : tie.Need-mul-c Inv-loop μ-loop
 mul-c c = search needs
 
--- src/lib.rt:225:17
 element-copy-out-c : tie.Need-element-copy-out-c Inv-loop μ-loop
 element-copy-out-c c = search needs
 
--- src/lib.rt:226:12
 coupling-stays-requires : tie.Need-coupling-stays-requires Inv-loop μ-loop
 coupling-stays-requires c κs = search needs
 
--- src/lib.rt:227:32
 new-coupling-requires : tie.Need-new-coupling-requires Inv-loop μ-loop
 new-coupling-requires c κs = search needs
 
--- src/lib.rt:227:13
 mul-couplings : tie.Need-mul-couplings Inv-loop μ-loop
 mul-couplings c = omega (arith, coupling-room (placesIn (c .before .before .before .before .before .before .before .before .before .args .places) (c .before .before .before .before .before .before .before .before .before .args .k)) (c .before .before .before .before .before .before .before .before .before .args .t1) (c .before .before .before .before .before .loop .i) (c .before .before .before .before .before .loop .couplings) (c .before .before .before .before .before .loop .count) (c .before .before .before .before .before .loop .inv .2) (omega arith))
 
--- src/lib.rt:227:13
 array-set-from-couplings : tie.Need-array-set-from-couplings Inv-loop μ-loop
 array-set-from-couplings c = omega (arith, coupling-room (placesIn (c .before .before .before .before .before .before .before .before .before .args .places) (c .before .before .before .before .before .before .before .before .before .args .k)) (c .before .before .before .before .before .before .before .before .before .args .t1) (c .before .before .before .before .before .loop .i) (c .before .before .before .before .before .loop .couplings) (c .before .before .before .before .before .loop .count) (c .before .before .before .before .before .loop .inv .2) (omega arith))
 
--- src/lib.rt:228:13
 add-count : tie.Need-add-count Inv-loop μ-loop
 add-count c = omega (arith, coupling-room (placesIn (c .before .before .before .before .before .before .before .before .before .args .places) (c .before .before .before .before .before .before .before .before .before .args .k)) (c .before .before .before .before .before .before .before .before .before .args .t1) (c .before .before .before .before .before .loop .i) (c .before .before .before .before .before .loop .couplings) (c .before .before .before .before .before .loop .count) (c .before .before .before .before .before .loop .inv .2) (omega arith))
 
--- src/lib.rt:230:9
 add-i : tie.Need-add-i Inv-loop μ-loop
 add-i c = search needs
 
--- src/lib.rt:224:5
 loop-less : tie.Need-loop-less Inv-loop μ-loop
 loop-less c = search needs
 
--- src/lib.rt:224:5
 loop-again : tie.Need-loop-again Inv-loop μ-loop
 loop-again c =
     ⊎-elim
@@ -80,7 +62,6 @@ loop-again c =
     (λ w. (c .before .before .before .before .loop .inv .0, omega arith, coupling-lost (placesIn (c .before .before .before .before .before .before .before .before .args .places) (c .before .before .before .before .before .before .before .before .args .k)) (c .before .before .before .before .before .before .before .before .args .t1) (c .before .before .before .before .loop .i) (c .before .before .before .before .loop .couplings) (c .before .before .before .before .loop .count) (c .before .before .before .before .loop .inv .2) (sym (c .before .coupling-stays .ensures) ∙ w .0 .left) _ _ (w .1) (w .2)))
     (c .if1 .came)
 
--- src/lib.rt:216:1
 returns : tie.Need-returns Inv-loop μ-loop
 returns c = couplings-done (placesIn (c .before .before .before .before .before .args .places) (c .before .before .before .before .before .args .k)) (c .before .before .before .before .before .args .t1) (c .before .loop .i) (c .before .loop .couplings) (c .before .loop .count) (c .before .loop .inv .2) (omega arith)
 

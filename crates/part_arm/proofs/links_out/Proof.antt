@@ -1,24 +1,17 @@
-use Rattle.arm.specs.declared.Arm.{Arm}
+-- `links_out`: the links passed so far that are in the part stand in front, rising, and the count is theirs. Assumes nothing.
 use mathlib.Core.Logic.{⊎-elim}
 use native.Mathlib.Omega.{arith}
+use mathlib.Core.Path.{_≡_, refl, sym, ap, _∙_}
+use Prim.Native.Nat.{_-_, _≤_}
+use borrow.Author.Needs.{needs}
+use Rattle.arm.specs.declared.Arm.{Arm}
 use Rattle.part_arm.proofs.Turns.{linkTurn, link-room, link-here, link-elsewhere, links-done}
 use Rattle.part_arm.proofs.Laid.{Laid, laid-none, laid-as}
 use Rattle.part_arm.specs.Places.{placesIn}
 use Rattle.working.specs.Empty.{emptyArm}
 use Rattle.arm.specs.Arm.{liveLinks}
-use mathlib.Core.Path.{_≡_, refl, sym, ap, _∙_}
-use Prim.Native.Nat.{_-_, _≤_}
-use borrow.Author.Needs.{needs}
 use Rattle.part_arm.proofs.links_out.Statement.{statement}
 use Rattle.part_arm.proofs.links_out.Tie as tie
-use Rattle.part_arm.proofs.links_out.Reads as reads
-use Rattle.part_arm.proofs.links_out.Lts as lts
-use Rattle.arm.proofs.live_links.Reads as live-links-reads
-use Rattle.part_arm.proofs.blank_arm.Reads as blank-arm-reads
-use Rattle.part_arm.proofs.is_head.Reads as is-head-reads
-use Rattle.part_arm.proofs.is_here.Reads as is-here-reads
-use Rattle.part_arm.proofs.new_link.Reads as new-link-reads
-use Rattle.part_arm.proofs.number_in.Reads as number-in-reads
 
 abbrev Inv-loop : tie.InvT-loop
 Inv-loop places k arm n links₀ count₀ j₀ links count j = (n ≡ liveLinks arm) × (j ≤ n) × Laid (linkTurn (placesIn places k) arm) (emptyArm .links) j links count
@@ -26,67 +19,51 @@ Inv-loop places k arm n links₀ count₀ j₀ links count j = (n ≡ liveLinks 
 abbrev μ-loop : tie.MeasureT-loop
 μ-loop places k arm n links₀ count₀ j₀ links count j = n - j
 
--- src/lib.rt:121:9
 live-links-requires : tie.Need-live-links-requires Inv-loop μ-loop
 live-links-requires c κs = search needs
 
--- src/lib.rt:122:9
 blank-arm-requires : tie.Need-blank-arm-requires Inv-loop μ-loop
 blank-arm-requires c κs = search needs
 
--- src/lib.rt:126:5
 loop-holds : tie.Need-loop-holds Inv-loop μ-loop
 loop-holds c = (c .before .before .live-links .ensures, omega arith, laid-as (linkTurn (placesIn (c .before .before .before .args .places) (c .before .before .before .args .k)) (c .before .before .before .args .t1)) (emptyArm .links) 0 (emptyArm .links) 0 (laid-none (linkTurn (placesIn (c .before .before .before .args .places) (c .before .before .before .args .k)) (c .before .before .before .args .t1)) (emptyArm .links)) _ 0 (ap (λ (a : Arm). a .links) (c .before .blank-arm .ensures)) refl)
 
--- src/lib.rt:127:12
 is-here-requires : tie.Need-is-here-requires Inv-loop μ-loop
 is-here-requires c κs = search needs
 
--- src/lib.rt:128:21
 mul-l : tie.Need-mul-l Inv-loop μ-loop
 mul-l c = search needs
 
--- src/lib.rt:128:21
 element-copy-out-l : tie.Need-element-copy-out-l Inv-loop μ-loop
 element-copy-out-l c = search needs
 
--- src/lib.rt:129:32
 is-head-requires : tie.Need-is-head-requires Inv-loop μ-loop
 is-head-requires c κs = search needs
 
--- src/lib.rt:129:70
 cast-number-in : tie.Need-cast-number-in Inv-loop μ-loop
 cast-number-in c = search needs
 
--- src/lib.rt:129:52
 number-in-requires : tie.Need-number-in-requires Inv-loop μ-loop
 number-in-requires c κs = search needs
 
--- src/lib.rt:129:17
 new-link-requires : tie.Need-new-link-requires Inv-loop μ-loop
 new-link-requires c κs = search needs
 
--- src/lib.rt:130:13
 mul-links : tie.Need-mul-links Inv-loop μ-loop
 mul-links c = omega (arith, link-room (placesIn (c .before .before .before .before .before .before .before .before .before .before .before .before .args .places) (c .before .before .before .before .before .before .before .before .before .before .before .before .args .k)) (c .before .before .before .before .before .before .before .before .before .before .before .before .args .t1) (c .before .before .before .before .before .before .before .before .loop .j) (c .before .before .before .before .before .before .before .before .loop .links) (c .before .before .before .before .before .before .before .before .loop .count) (c .before .before .before .before .before .before .before .before .loop .inv .2) (omega arith))
 
--- src/lib.rt:130:13
 array-set-from-links : tie.Need-array-set-from-links Inv-loop μ-loop
 array-set-from-links c = omega (arith, link-room (placesIn (c .before .before .before .before .before .before .before .before .before .before .before .before .args .places) (c .before .before .before .before .before .before .before .before .before .before .before .before .args .k)) (c .before .before .before .before .before .before .before .before .before .before .before .before .args .t1) (c .before .before .before .before .before .before .before .before .loop .j) (c .before .before .before .before .before .before .before .before .loop .links) (c .before .before .before .before .before .before .before .before .loop .count) (c .before .before .before .before .before .before .before .before .loop .inv .2) (omega arith))
 
--- src/lib.rt:131:13
 add-count : tie.Need-add-count Inv-loop μ-loop
 add-count c = omega (arith, link-room (placesIn (c .before .before .before .before .before .before .before .before .before .before .before .before .args .places) (c .before .before .before .before .before .before .before .before .before .before .before .before .args .k)) (c .before .before .before .before .before .before .before .before .before .before .before .before .args .t1) (c .before .before .before .before .before .before .before .before .loop .j) (c .before .before .before .before .before .before .before .before .loop .links) (c .before .before .before .before .before .before .before .before .loop .count) (c .before .before .before .before .before .before .before .before .loop .inv .2) (omega arith))
 
--- src/lib.rt:133:9
 add-j : tie.Need-add-j Inv-loop μ-loop
 add-j c = search needs
 
--- src/lib.rt:126:5
 loop-less : tie.Need-loop-less Inv-loop μ-loop
 loop-less c = search needs
 
--- src/lib.rt:126:5
 loop-again : tie.Need-loop-again Inv-loop μ-loop
 loop-again c =
     ⊎-elim
@@ -94,7 +71,6 @@ loop-again c =
     (λ w. (c .before .before .before .loop .inv .0, omega arith, link-elsewhere (placesIn (c .before .before .before .before .before .before .before .args .places) (c .before .before .before .before .before .before .before .args .k)) (c .before .before .before .before .before .before .before .args .t1) (c .before .before .before .loop .j) (c .before .before .before .loop .links) (c .before .before .before .loop .count) (c .before .before .before .loop .inv .2) (sym (c .before .is-here .ensures) ∙ w .0 .left) _ _ (w .1) (w .2)))
     (c .if1 .came)
 
--- src/lib.rt:118:1
 returns : tie.Need-returns Inv-loop μ-loop
 returns c = links-done (placesIn (c .before .before .before .before .before .args .places) (c .before .before .before .before .before .args .k)) (c .before .before .before .before .before .args .t1) (c .before .loop .j) (c .before .loop .links) (c .before .loop .count) (c .before .loop .inv .2) (omega arith)
 

@@ -1,18 +1,16 @@
+-- `rows_out`: the rows passed so far are those of the part. Assumes nothing.
 use native.Mathlib.Omega.{arith}
+use lib.ListN.{length, take, length-map, length-set}
+use mathlib.Core.List.{map, []}
+use mathlib.Core.Path.{_≡_, refl, sym, _∙_}
+use Prim.Native.Nat.{_-_, _≤_}
+use borrow.Author.Needs.{needs}
 use Rattle.arm.proofs.Shape.{rows-length}
 use Rattle.arm.proofs.Lists.{filled-more, filled-all, map-at}
 use Rattle.part_arm.specs.Part.{partRow}
 use Rattle.part_arm.specs.Places.{placesIn}
-use lib.ListN.{length, take, length-map, length-set}
-use mathlib.Core.List.{map, []}
-use mathlib.Core.Path.{_≡_, refl, sym, ap, _∙_}
-use Prim.Native.Nat.{_-_, _≤_}
-use borrow.Author.Needs.{needs}
 use Rattle.part_arm.proofs.rows_out.Statement.{statement}
 use Rattle.part_arm.proofs.rows_out.Tie as tie
-use Rattle.part_arm.proofs.rows_out.Reads as reads
-use Rattle.part_arm.proofs.rows_out.Lts as lts
-use Rattle.part_arm.proofs.row_out.Reads as row-out-reads
 
 abbrev Inv-loop : tie.InvT-loop
 Inv-loop places k arm rows₀ i₀ rows i = (i ≤ 5) × (length rows ≡ 5) × (take i rows ≡ take i (map (partRow (placesIn places k) arm) (arm .rows)))
@@ -20,39 +18,30 @@ Inv-loop places k arm rows₀ i₀ rows i = (i ≤ 5) × (length rows ≡ 5) × 
 abbrev μ-loop : tie.MeasureT-loop
 μ-loop places k arm rows₀ i₀ rows i = 5 - i
 
--- src/lib.rt:178:5
 loop-holds : tie.Need-loop-holds Inv-loop μ-loop
 loop-holds c = (omega arith, rows-length (c .before .args .t1) (c .before .good .0), refl)
 
--- src/lib.rt:179:19
 mul-row : tie.Need-mul-row Inv-loop μ-loop
 mul-row c = search needs
 
--- src/lib.rt:179:19
 element-copy-out-row : tie.Need-element-copy-out-row Inv-loop μ-loop
 element-copy-out-row c = search needs
 
--- src/lib.rt:180:19
 row-out-requires : tie.Need-row-out-requires Inv-loop μ-loop
 row-out-requires c κs = search needs
 
--- src/lib.rt:180:9
 mul-rows : tie.Need-mul-rows Inv-loop μ-loop
 mul-rows c = search needs
 
--- src/lib.rt:180:9
 array-set-from-rows : tie.Need-array-set-from-rows Inv-loop μ-loop
 array-set-from-rows c = search needs
 
--- src/lib.rt:181:9
 add-i : tie.Need-add-i Inv-loop μ-loop
 add-i c = search needs
 
--- src/lib.rt:178:5
 loop-less : tie.Need-loop-less Inv-loop μ-loop
 loop-less c = search needs
 
--- src/lib.rt:178:5
 loop-again : tie.Need-loop-again Inv-loop μ-loop
 loop-again c =
     let s = c .before .before .before .before .before in
@@ -63,7 +52,6 @@ loop-again c =
     let m : length (map f (a .rows)) ≡ length (a .rows) = length-map (a .rows) f in
     (omega arith, simp length-set (k .inv .1), filled-more (map f (a .rows)) (k .rows) (k .i) (record { entries = [] }) _ (omega arith) (omega arith) (k .inv .2) (c .row-out .ensures ∙ sym (map-at f (a .rows) (k .i) _ _ (omega arith))))
 
--- src/lib.rt:173:1
 returns : tie.Need-returns Inv-loop μ-loop
 returns c =
     let s = c .before .before .before in

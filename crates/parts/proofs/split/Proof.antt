@@ -1,62 +1,45 @@
+-- `split`: the refusals are the definition's, and what is written is the bare list's map. Assumes nothing.
 use native.Mathlib.Omega.{arith}
 use mathlib.Core.Path.{_∙_}
-use Rattle.parts.proofs.Refused.{split-refused, split-given, split-tests, is-split-refusal}
-use Rattle.arm.proofs.Shape.{links-length}
 use borrow.Author.Needs.{needs}
+use Rattle.parts.proofs.Refused.{split-refused, split-given, is-split-refusal}
+use Rattle.arm.proofs.Shape.{links-length}
 use Rattle.parts.proofs.split.Statement.{statement}
 use Rattle.parts.proofs.split.Tie as tie
-use Rattle.parts.proofs.split.Reads as reads
-use Rattle.parts.proofs.split.Lts as lts
-use Rattle.arm.proofs.arm_refusal.Reads as arm-refusal-reads
-use Rattle.arm.proofs.live_links.Reads as live-links-reads
-use Rattle.parts.proofs.map_of.Reads as map-of-reads
-use Rattle.refusal.proofs.lower.Reads as lower-reads
-use Rattle.refusal.proofs.unless.Reads as unless-reads
 
--- src/lib.rt:269:31
 slice-aggregate-map-of : tie.Need-slice-aggregate-map-of
 slice-aggregate-map-of c = search needs
 
--- src/lib.rt:269:9
 map-of-requires : tie.Need-map-of-requires
 map-of-requires c κs = search needs
 
--- src/lib.rt:270:18
 live-links-requires : tie.Need-live-links-requires
 live-links-requires c κs = search needs
 
--- src/lib.rt:271:25
 unless-requires : tie.Need-unless-requires
 unless-requires c κs = search needs
 
--- src/lib.rt:271:64
 arm-refusal-requires : tie.Need-arm-refusal-requires
 arm-refusal-requires c κs = search needs
 
--- src/lib.rt:271:44
 lower-requires : tie.Need-lower-requires
 lower-requires c κs = search needs
 
--- src/lib.rt:271:9
 lower-requires-2 : tie.Need-lower-requires-2
 lower-requires-2 c κs = search needs
 
--- src/lib.rt:273:9
 returns : tie.Need-returns
 returns c =
     let s = c .before .before .before .before .before .before .before .before .before .before in
     let w = links-length (s .args .arm) (s .good .0) in
     split-refused (s .args .arm) w (s .args .s) (s .args .map .now) _ (is-split-refusal (s .args .arm) w (s .args .s) _ _ (omega arith) _ (c .before .before .before .before .before .before .before .map-of .ensures) _ (c .before .before .before .arm-refusal .ensures) _ _ _ (c .before .lower2 .ensures) _ (s .args .map .now) (c .before .before .before .before .before .live-links .ensures) (c .before .before .before .before .unless .ensures) (c .before .before .lower .ensures)) (c .if1 .taken)
 
--- src/lib.rt:275:5
 map-of-requires-2 : tie.Need-map-of-requires-2
 map-of-requires-2 c κs = search needs
 
--- src/lib.rt:265:1
 same-length : tie.Need-same-length
 same-length c = search needs
 
--- src/lib.rt:265:1
 returns-2 : tie.Need-returns-2
 returns-2 c =
     let s = c .before .before .before .before .before .before .before .before .before .before .before .before .before .before in
