@@ -33,6 +33,7 @@ pub fn split(arm: Arm, s: Split, map: &mut [u8]) -> Counted
     ensures { λ r. ⌜ out r (now (map .exit)) ≡ armSplit arm s (now (map .entry)) ⌝ }
 {
     let mut places = [0u8; MAP];
+    // What the bare list refuses is known before the lent memory is written.
     let bare = map_of(arm, s, &mut places);
     let enough = live_links(arm.link_count) <= map.len() / 2;
     let refusal = lower(unless(enough, 1), lower(bare.refusal, arm_refusal(arm)));
@@ -48,6 +49,7 @@ pub fn part(arm: Arm, s: Split, k: u32, tables: &mut [f32]) -> Edited
 {
     let mut places = [0u8; MAP];
     let bare = map_of(arm, s, &mut places);
+    // A bare list that is refused has no part, so that 4 is given for its link too.
     let q = k as usize;
     let refusal = lower(
         unless(tables_fit(tables), 1),
