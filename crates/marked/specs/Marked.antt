@@ -23,7 +23,7 @@ pub data Question : Type 0 where
   -- the constraint count of locked, limit and motor masks
   constraints : ℕ → ℕ → ℕ → Question
   -- the limit row of min, max, pos and erp_inv_dt, floats by their bits
-  limit : ℕ → ℕ → ℕ → ℕ → Question
+  limitRow : ℕ → ℕ → ℕ → ℕ → Question
 
 -- what is given of a limit; neither dt nor cfm_coeff tells in its bounds and its right side
 abbrev pub limitsOf : ℕ → ℕ → ℕ → ℕ → Limits
@@ -44,7 +44,7 @@ answer (damping mask) =
 answer (constraints locked limit motor) =
     let a = constraintsAnswer locked limit motor in
     a .refusal ∷ a .count ∷ []
-answer (limit min max pos erp) =
+answer (limitRow min max pos erp) =
     let b = limitBounds (limitsOf min max pos erp) in
     map (toBits binary32) (b .lower ∷ b .upper ∷ b .rhs ∷ [])
 
@@ -71,8 +71,8 @@ marked =
     ∷ (starts (7 ∷ 3 ∷ 3 ∷ 0 ∷ []), 0 ∷ 5 ∷ 0 ∷ 0 ∷ 1 ∷ 2 ∷ [])
     ∷ (damping 0, 0 ∷ 3 ∷ 0 ∷ 0 ∷ 0x3DCC_CCCD ∷ [])
     ∷ (constraints 3 7 4, 0 ∷ 2 ∷ [])
-    ∷ (limit 0 0x3F80_0000 0x4000_0000 0x4120_0000, 0x8000_0000 ∷ 0x7F7F_FFFF ∷ 0x4120_0000 ∷ [])
-    ∷ (limit 0 0x3F80_0000 0x3F80_0000 0x4120_0000, 0x8000_0000 ∷ 0 ∷ 0 ∷ [])
+    ∷ (limitRow 0 0x3F80_0000 0x4000_0000 0x4120_0000, 0x8000_0000 ∷ 0x7F7F_FFFF ∷ 0x4120_0000 ∷ [])
+    ∷ (limitRow 0 0x3F80_0000 0x3F80_0000 0x4120_0000, 0x8000_0000 ∷ 0 ∷ 0 ∷ [])
     ∷ []
 
 -- each question of a table has its answer
