@@ -32,7 +32,7 @@ use Rattle.arm.proofs.Accepted.{both-hold}
 use Rattle.arm.proofs.Every.{every-map}
 use Rattle.arm.proofs.Live.{dof-count-le, root-some}
 use Rattle.kinematics.specs.State.{noLink, linkAt}
-use Rattle.kinematics.proofs.Small.{differ}
+use Rattle.topology.proofs.Small.{differ}
 use Rattle.working.specs.Outcome.{tablesFit}
 use Rattle.working.proofs.Tests.{Passes, both, holds-in, passes, not-refused, link-passes, links-pass, each-passes, all-pass, tags-stay, numbers-stay}
 use Rattle.working.proofs.Again.{call-settles, call-keeps, call-joint}
@@ -65,7 +65,7 @@ kinds locked k = go (eqb locked 7) refl (eqb locked 0) refl k
     go : (b : Bool) → eqb locked 7 ≡ b → (c : Bool) → eqb locked 0 ≡ c → (b || c) ≡ true → (locked ≡ 7) ⊎ (locked ≡ 0)
     go true e c f h = inl (eqb-true locked 7 e)
     go false e true f h = inr (eqb-true locked 0 f)
-    go false e false f h = differ (sym h)
+    go false e false f h = absurd (differ (sym h))
 
 root-locked : (locked : ℕ) (p : Pose) (j : Joint) → Kind locked → rootJoint locked p j .locked ≡ locked
 unfolding rootJoint freePosSet withFrame1 freeJoint fixedJoint
@@ -76,7 +76,7 @@ root-locked locked p j k = go (eqb (j .locked) locked) refl (eqb locked 0) refl
     go true e true h = eqb-true (j .locked) locked e
     go true e false h = eqb-true (j .locked) locked e
     go false e true h = sym (eqb-true locked 0 h)
-    go false e false h = elim (kinds locked k) [ inl s ↦ sym s | inr z ↦ differ (sym (eq-eqb locked 0 z) ∙ h) ]
+    go false e false h = elim (kinds locked k) [ inl s ↦ sym s | inr z ↦ absurd (differ (sym (eq-eqb locked 0 z) ∙ h)) ]
 
 module _ (locked : ℕ) (p : Pose) (j : Joint) where
   masks-fit : jointMasksFit j ≡ true → jointMasksFit (rootJoint locked p j) ≡ true

@@ -6,8 +6,12 @@ use native.Mathlib.Omega.{arith}
 use lib.ListN.{length, take, getD, length-map, List·getD-eq-default}
 use lib.Seq.{getD-take, length-take-le}
 use Rattle.limits.specs.Limits.{linkLimit}
+use borrow.Author.Tests.{eqb-true}
+use mathlib.Core.List.{List}
+use Rattle.topology.specs.Parents.{parentFits, parentsFit}
 use Rattle.topology.specs.Parents as by-list
-use Rattle.topology.proofs.Fitting.{earlier, root}
+use Rattle.topology.proofs.Tables.{all-at}
+use Rattle.topology.proofs.Fitting.{earlier}
 use Rattle.arm.specs.declared.Link.{Link}
 use Rattle.arm.specs.declared.Arm.{Arm}
 use Rattle.arm.specs.Arm.{liveLinks, linksOf, parentsOf}
@@ -16,6 +20,11 @@ use Rattle.arm.specs.HandedIn.{parentsEarlier}
 use Rattle.arm.proofs.Lists.{map-at}
 use Rattle.arm.proofs.Live.{links-live}
 use Rattle.kinematics.specs.State.{noLink, parentOf}
+
+-- a first link's parent is 0
+root : (ps : List ℕ) → parentsFit ps ≡ true → 0 < length ps → by-list.parentOf ps 0 ≡ 0
+unfolding parentsFit parentFits
+root ps fit h = eqb-true (by-list.parentOf ps 0) 0 (all-at (length ps) (λ k. parentFits k (by-list.parentOf ps k)) fit 0 h)
 
 module _ (a : Arm) (whole : length (a .links) ≡ linkLimit) where
   -- a link that counts, and one that does not
