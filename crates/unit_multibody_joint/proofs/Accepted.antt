@@ -1,19 +1,19 @@
 -- What an accepted row knows: its memories and its mass matrix fit, the matrix is finite, and the DoF lies within the count. Assumes nothing.
 use Prim.Native.Nat.{ℕ, suc, min, _*_, _≤_, _<_}
-use mathlib.Core.Path.{_≡_, refl, sym, _∙_}
+use mathlib.Core.Path.{_≡_, refl}
 use mathlib.Core.Bool.{Bool, true, false, _&&_}
 use mathlib.Core.Logic.{inl, inr}
-use mathlib.Core.List.{List, [], _∷_}
+use mathlib.Core.List.{List}
 use native.Mathlib.Omega.{arith}
 use borrow.Author.Tests.{leb-true, ltb-true}
 use lib.Dec.{leb, ltb}
 use lib.ListN.{length, take}
 use lib.Ieee.{Float}
 use Rattle.limits.specs.Limits.{linkLimit, dofLimit}
-use Rattle.refusal.specs.Refusal.{unlessOf, lowest, In}
+use Rattle.refusal.specs.Refusal.{unlessOf, In}
 use Rattle.refusal.proofs.Laws.{is-lowest}
 use Rattle.floats.specs.Floats.{allFinite}
-use Rattle.masks.specs.Masks.{isAxis, isFree}
+use Rattle.masks.specs.Masks.{isFree}
 use Rattle.arm.specs.declared.Arm.{Arm}
 use Rattle.arm.specs.Arm.{maskAt, dofCountOf, liveLinks}
 use Rattle.arm.specs.Edits.{dofAt}

@@ -1,16 +1,16 @@
 -- What the rows answer, refused, in trouble or made, from what their parts give. Assumes nothing.
-use Prim.Native.Nat.{ℕ, zero, suc, min, _*_, _-_, _≤_, _<_}
+use Prim.Native.Nat.{ℕ, zero, suc, _*_, _-_, _≤_, _<_}
 use mathlib.Core.Path.{_≡_, refl, sym, ap, _∙_}
 use mathlib.Core.Bool.{Bool, true, false}
-use mathlib.Core.List.{List, _∷_, _++_}
+use mathlib.Core.List.{List, _∷_}
 use native.Mathlib.Omega.{arith}
 use native.Mathlib.Nat.{sub-zero}
-use lib.ListN.{length, take, drop, getD, set, replicate, length-replicate, length-set}
+use lib.ListN.{length, take, getD, set, replicate, length-replicate, length-set}
 use lib.Seq.{take-set-lt, take-all, length-take-le, getD-take}
-use lib.Ieee.{Float, nan, binary32, ofBits}
+use lib.Ieee.{Float, nan, ofBits}
 use Rattle.limits.specs.Limits.{dofLimit}
 use Rattle.refusal.specs.Refusal.{unlessOf}
-use Rattle.floats.specs.Floats.{zero32, one32, isFinite, allFinite, overlaid}
+use Rattle.floats.specs.Floats.{zero32, one32, allFinite, overlaid}
 use Rattle.floats.proofs.Rows.{overlaid-parts}
 use Rattle.masks.specs.Answers.{laid}
 use Rattle.solve.specs.Solve.{Answer, answer, solution, solveOf}

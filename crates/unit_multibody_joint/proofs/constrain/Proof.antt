@@ -25,7 +25,10 @@ refused-row-requires : tie.Need-refused-row-requires
 refused-row-requires c κs = search needs
 
 returns : tie.Need-returns
-returns c = row-trouble (c .before .before .before .before .before .before .before .before .before .args .n) (c .before .before .before .before .before .before .before .before .before .args .at) (c .before .before .before .before .before .before .before .before .before .args .b) (c .before .before .before .before .before .before .before .before .before .args .cfm-coeff) (c .before .before .before .before .before .before .before .before .before .args .mass .now) (c .before .before .before .before .before .before .before .before .before .args .j .now) (c .before .before .before .before .before .before .before .before .before .args .wj .now) (c .before .before .before .solve .last .1 .1 .1 .0) (c .before .before .before .solve .result) (c .before .before .before .before .before .before .before .before .before .pre .0) (c .before .before .before .before .before .before .before .before .before .pre .1) (c .before .before .before .before .before .before .before .before .before .pre .2) (c .before .before .before .before .before .before .before .before .before .pre .3) (c .before .before .solved2 .given) (c .before .before .before .solve .ensures) (c .before .if1 .taken) (c .refused-row .result) (c .refused-row .ensures)
+returns c =
+    let start = c .before .before .before .before .before .before .before .before .before in
+    let at-solve = c .before .before .before in
+    row-trouble (start .args .n) (start .args .at) (start .args .b) (start .args .cfm-coeff) (start .args .mass .now) (start .args .j .now) (start .args .wj .now) (at-solve .solve .last .1 .1 .1 .0) (at-solve .solve .result) (start .pre .0) (start .pre .1) (start .pre .2) (start .pre .3) (c .before .before .solved2 .given) (at-solve .solve .ensures) (c .before .if1 .taken) (c .refused-row .result) (c .refused-row .ensures)
 
 mul-row-of : tie.Need-mul-row-of
 mul-row-of c = search needs
@@ -43,7 +46,13 @@ refused-row-requires-2 : tie.Need-refused-row-requires-2
 refused-row-requires-2 c κs = search needs
 
 returns-2 : tie.Need-returns-2
-returns-2 c = row-wild (c .before .before .before .before .before .before .before .before .before .before .before .before .args .n) (c .before .before .before .before .before .before .before .before .before .before .before .before .args .at) (c .before .before .before .before .before .before .before .before .before .before .before .before .args .b) (c .before .before .before .before .before .before .before .before .before .before .before .before .args .cfm-coeff) (c .before .before .before .before .before .before .before .before .before .before .before .before .args .mass .now) (c .before .before .before .before .before .before .before .before .before .before .before .before .args .j .now) (c .before .before .before .before .before .before .before .before .before .before .before .before .args .wj .now) (c .before .before .before .before .before .before .solve .last .1 .1 .1 .0) (c .before .before .before .before .before .before .solve .result) (c .before .before .before .before .before .before .before .before .before .before .before .before .pre .0) (c .before .before .before .before .before .before .before .before .before .before .before .before .pre .1) (c .before .before .before .before .before .before .before .before .before .before .before .before .pre .2) (c .before .before .before .before .before .before .before .before .before .before .before .before .pre .3) (c .before .before .before .before .before .solved2 .given) (c .before .before .before .before .before .before .solve .ensures) (c .before .before .before .before .if1 .left) (c .before .before .before .row-of .result) (c .before .before .before .row-of .ensures) (sym (c .before .before .is-finite-row .ensures) ∙ not-true _ (c .before .if2 .taken)) (c .refused-row2 .result) (c .refused-row2 .ensures)
+returns-2 c =
+    let start = c .before .before .before .before .before .before .before .before .before .before .before .before in
+    let at-solve = c .before .before .before .before .before .before in
+    let at-solved2 = c .before .before .before .before .before in
+    let at-if1 = c .before .before .before .before in
+    let at-row-of = c .before .before .before in
+    row-wild (start .args .n) (start .args .at) (start .args .b) (start .args .cfm-coeff) (start .args .mass .now) (start .args .j .now) (start .args .wj .now) (at-solve .solve .last .1 .1 .1 .0) (at-solve .solve .result) (start .pre .0) (start .pre .1) (start .pre .2) (start .pre .3) (at-solved2 .solved2 .given) (at-solve .solve .ensures) (at-if1 .if1 .left) (at-row-of .row-of .result) (at-row-of .row-of .ensures) (sym (c .before .before .is-finite-row .ensures) ∙ not-true _ (c .before .if2 .taken)) (c .refused-row2 .result) (c .refused-row2 .ensures)
 
 sub-copy : tie.Need-sub-copy
 sub-copy c = search needs
@@ -76,7 +85,17 @@ same-length-2 : tie.Need-same-length-2
 same-length-2 c = search needs
 
 returns-3 : tie.Need-returns-3
-returns-3 c = row-made (c .before .before .before .before .before .before .before .before .before .before .before .before .before .before .before .before .before .before .before .before .before .before .before .args .n) (c .before .before .before .before .before .before .before .before .before .before .before .before .before .before .before .before .before .before .before .before .before .before .before .args .at) (c .before .before .before .before .before .before .before .before .before .before .before .before .before .before .before .before .before .before .before .before .before .before .before .args .b) (c .before .before .before .before .before .before .before .before .before .before .before .before .before .before .before .before .before .before .before .before .before .before .before .args .cfm-coeff) (c .before .before .before .before .before .before .before .before .before .before .before .before .before .before .before .before .before .before .before .before .before .before .before .args .mass .now) (c .before .before .before .before .before .before .before .before .before .before .before .before .before .before .before .before .before .before .before .before .before .before .before .args .j .now) (c .before .before .before .before .before .before .before .before .before .before .before .before .before .before .before .before .before .before .before .before .before .before .before .args .wj .now) (c .before .before .before .before .before .before .before .before .before .before .before .before .before .before .before .before .before .solve .last .1 .1 .1 .0) (c .before .before .before .before .before .before .before .before .before .before .before .before .before .before .before .before .before .solve .result) (c .before .before .before .before .before .before .before .before .before .before .before .before .before .before .before .before .before .before .before .before .before .before .before .pre .0) (c .before .before .before .before .before .before .before .before .before .before .before .before .before .before .before .before .before .before .before .before .before .before .before .pre .1) (c .before .before .before .before .before .before .before .before .before .before .before .before .before .before .before .before .before .before .before .before .before .before .before .pre .2) (c .before .before .before .before .before .before .before .before .before .before .before .before .before .before .before .before .before .before .before .before .before .before .before .pre .3) (c .before .before .before .before .before .before .before .before .before .before .before .before .before .before .before .before .solved2 .given) (c .before .before .before .before .before .before .before .before .before .before .before .before .before .before .before .before .before .solve .ensures) (c .before .before .before .before .before .before .before .before .before .before .before .before .before .before .before .if1 .left) (c .before .before .before .before .before .before .before .before .before .before .before .before .before .before .row-of .result) (c .before .before .before .before .before .before .before .before .before .before .before .before .before .before .row-of .ensures) (sym (c .before .before .before .before .before .before .before .before .before .before .before .before .before .is-finite-row .ensures) ∙ not-false _ (c .before .before .before .before .before .before .before .before .before .before .before .before .if2 .left)) (c .before .before .before .before .before .before .before .before .before .before .before .before .before .before .before .before .before .before .before .before .before .before .before .pre .4) (c .before .before .before .before .before .before .before .before .before .before .before .before .before .before .before .before .before .before .before .before .before .before .before .pre .5) (c .before .before .before .before .before .before .before .before .copy .last .0) (c .before .before .copy2 .last .0) (c .before .before .before .before .before .before .before .before .copy .ensures) (c .before .before .copy2 .ensures)
+returns-3 c =
+    let start = c .before .before .before .before .before .before .before .before .before .before .before .before .before .before .before .before .before .before .before .before .before .before .before in
+    let at-solve = c .before .before .before .before .before .before .before .before .before .before .before .before .before .before .before .before .before in
+    let at-solved2 = c .before .before .before .before .before .before .before .before .before .before .before .before .before .before .before .before in
+    let at-if1 = c .before .before .before .before .before .before .before .before .before .before .before .before .before .before .before in
+    let at-row-of = c .before .before .before .before .before .before .before .before .before .before .before .before .before .before in
+    let at-is-finite-row = c .before .before .before .before .before .before .before .before .before .before .before .before .before in
+    let at-if2 = c .before .before .before .before .before .before .before .before .before .before .before .before in
+    let at-copy = c .before .before .before .before .before .before .before .before in
+    let at-copy2 = c .before .before in
+    row-made (start .args .n) (start .args .at) (start .args .b) (start .args .cfm-coeff) (start .args .mass .now) (start .args .j .now) (start .args .wj .now) (at-solve .solve .last .1 .1 .1 .0) (at-solve .solve .result) (start .pre .0) (start .pre .1) (start .pre .2) (start .pre .3) (at-solved2 .solved2 .given) (at-solve .solve .ensures) (at-if1 .if1 .left) (at-row-of .row-of .result) (at-row-of .row-of .ensures) (sym (at-is-finite-row .is-finite-row .ensures) ∙ not-false _ (at-if2 .if2 .left)) (start .pre .4) (start .pre .5) (at-copy .copy .last .0) (at-copy2 .copy2 .last .0) (at-copy .copy .ensures) (at-copy2 .copy2 .ensures)
 
 pub constrain-spec : {M : Type 1} → statement M
 constrain-spec =

@@ -30,7 +30,13 @@ row-entry-requires : tie.Need-row-entry-requires
 row-entry-requires c κs = omega (arith, c .dof-count .ensures, dof-count-le (c .before .before .before .before .before .args .t1))
 
 returns : tie.Need-returns
-returns c = c .row-entry .ensures ∙ friction-is (c .before .before .before .before .before .before .args .t1) (c .before .before .before .before .before .before .args .link) (c .before .before .before .before .before .before .args .axis) _ (c .before .dof-count .result) (c .before .before .before .before .before .row-number .result) (c .before .before .before .axis-byte .result) (c .before .before .dof-at .result) (rows-length (c .before .before .before .before .before .before .args .t1) (c .before .before .before .before .before .before .good .0)) (c .before .dof-count .ensures) (c .before .before .before .before .before .row-number .ensures) (c .before .before .before .axis-byte .ensures) (c .before .before .dof-at .ensures)
+returns c =
+    let start = c .before .before .before .before .before .before in
+    let at-row-number = c .before .before .before .before .before in
+    let at-axis-byte = c .before .before .before in
+    let at-dof-at = c .before .before in
+    let at-dof-count = c .before in
+    c .row-entry .ensures ∙ friction-is (start .args .t1) (start .args .link) (start .args .axis) _ (at-dof-count .dof-count .result) (at-row-number .row-number .result) (at-axis-byte .axis-byte .result) (at-dof-at .dof-at .result) (rows-length (start .args .t1) (start .good .0)) (at-dof-count .dof-count .ensures) (at-row-number .row-number .ensures) (at-axis-byte .axis-byte .ensures) (at-dof-at .dof-at .ensures)
 
 pub friction-at-spec : {M : Type 1} → statement M
 friction-at-spec =

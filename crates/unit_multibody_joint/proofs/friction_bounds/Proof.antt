@@ -1,6 +1,5 @@
 -- `friction_bounds`: the definition, field by field. Assumes nothing.
 use mathlib.Core.Path.{refl}
-use borrow.Author.Needs.{needs}
 use Rattle.unit_multibody_joint.specs.Rows.{frictionBounds}
 use Rattle.unit_multibody_joint.proofs.friction_bounds.Statement.{statement}
 use Rattle.unit_multibody_joint.proofs.friction_bounds.Tie as tie

@@ -8,8 +8,6 @@ use Rattle.unit_multibody_joint.specs.Refusals.{frictionRefusal}
 use lib.Ieee.{Float}
 use mathlib.Core.Path.{_∙_, ap, sym}
 use Rattle.arm.proofs.Shape.{links-length}
-use Rattle.arm.specs.Arm.{dofCountOf}
-use Rattle.arm.specs.Edits.{dofAt}
 use borrow.Author.Needs.{needs}
 use Rattle.unit_multibody_joint.proofs.friction_row.Statement.{statement}
 use Rattle.unit_multibody_joint.proofs.friction_row.Tie as tie
@@ -22,7 +20,9 @@ refused-row-requires c κs = search needs
 
 returns : tie.Need-returns
 unfolding frictionAnswer
-returns c = row-refused _ _ _ _ _ _ _ _ (c .before .before .friction-refusal .result) (c .refused-row .result) (c .before .before .friction-refusal .ensures) (c .before .if1 .taken) (c .refused-row .ensures)
+returns c =
+    let at-friction-refusal = c .before .before in
+    row-refused _ _ _ _ _ _ _ _ (at-friction-refusal .friction-refusal .result) (c .refused-row .result) (at-friction-refusal .friction-refusal .ensures) (c .before .if1 .taken) (c .refused-row .ensures)
 
 dof-count-requires : tie.Need-dof-count-requires
 dof-count-requires c κs = search needs
@@ -41,7 +41,14 @@ friction-bounds-requires c κs = search needs
 
 constrain-requires : tie.Need-constrain-requires
 unfolding frictionRefusal
-constrain-requires c κs = row-ready (c .before .before .before .before .before .before .before .before .before .before .before .before .args .arm) (c .before .before .before .before .before .before .before .before .before .before .before .before .args .link) (c .before .before .before .before .before .before .before .before .before .before .before .before .args .axis) _ _ (c .before .before .before .before .before .before .before .before .before .before .before .before .args .mass .now) _ _ (sym (c .before .before .before .before .before .before .before .before .friction-refusal .ensures) ∙ c .before .before .before .before .before .before .before .if1 .left) (c .before .before .before .before .before .before .dof-count .result) (c .before .before .before .before .before .axis-byte .result) (c .before .before .before .before .dof-at .result) (c .before .before .before .before .before .before .dof-count .ensures) (c .before .before .before .before .before .axis-byte .ensures) (c .before .before .before .before .dof-at .ensures) (links-length (c .before .before .before .before .before .before .before .before .before .before .before .before .args .arm) (c .before .before .before .before .before .before .before .before .before .before .before .before .good .0))
+constrain-requires c κs =
+    let start = c .before .before .before .before .before .before .before .before .before .before .before .before in
+    let at-friction-refusal = c .before .before .before .before .before .before .before .before in
+    let at-if1 = c .before .before .before .before .before .before .before in
+    let at-dof-count = c .before .before .before .before .before .before in
+    let at-axis-byte = c .before .before .before .before .before in
+    let at-dof-at = c .before .before .before .before in
+    row-ready (start .args .arm) (start .args .link) (start .args .axis) _ _ (start .args .mass .now) _ _ (sym (at-friction-refusal .friction-refusal .ensures) ∙ at-if1 .if1 .left) (at-dof-count .dof-count .result) (at-axis-byte .axis-byte .result) (at-dof-at .dof-at .result) (at-dof-count .dof-count .ensures) (at-axis-byte .axis-byte .ensures) (at-dof-at .dof-at .ensures) (links-length (start .args .arm) (start .good .0))
 
 same-length : tie.Need-same-length
 same-length c = search needs
@@ -51,7 +58,17 @@ same-length-2 c = search needs
 
 returns-2 : tie.Need-returns-2
 unfolding frictionAnswer
-returns-2 c = row-on _ (c .before .before .before .before .before .before .before .before .before .before .before .before .before .friction-refusal .result) _ _ _ _ _ _ _ _ _ _ _ (c .before .before .before .before .before .before .before .before .before .before .before .before .before .friction-refusal .ensures) (c .before .before .before .before .before .before .before .before .before .before .before .before .if1 .left) (c .before .before .before .before .before .before .before .before .before .before .before .dof-count .ensures) (c .before .before .before .before .before .before .before .before .before .dof-at .ensures ∙ dof-byte (c .before .before .before .before .before .before .before .before .before .before .before .before .before .before .before .before .before .args .arm) (c .before .before .before .before .before .before .before .before .before .before .before .before .before .before .before .before .before .args .link) (c .before .before .before .before .before .before .before .before .before .before .before .before .before .before .before .before .before .args .axis) (c .before .before .before .before .before .before .before .before .before .before .axis-byte .result) (c .before .before .before .before .before .before .before .before .before .before .axis-byte .ensures)) (c .before .before .before .before .before .before .before .friction-bounds .ensures ∙ ap (λ (f : Float). frictionBounds f (c .before .before .before .before .before .before .before .before .before .before .before .before .before .before .before .before .before .args .dt)) (c .before .before .before .before .before .before .before .before .friction-at .ensures)) (c .before .before .before .before .constrain .ensures)
+returns-2 c =
+    let start = c .before .before .before .before .before .before .before .before .before .before .before .before .before .before .before .before .before in
+    let at-friction-refusal = c .before .before .before .before .before .before .before .before .before .before .before .before .before in
+    let at-if1 = c .before .before .before .before .before .before .before .before .before .before .before .before in
+    let at-dof-count = c .before .before .before .before .before .before .before .before .before .before .before in
+    let at-axis-byte = c .before .before .before .before .before .before .before .before .before .before in
+    let at-dof-at = c .before .before .before .before .before .before .before .before .before in
+    let at-friction-at = c .before .before .before .before .before .before .before .before in
+    let at-friction-bounds = c .before .before .before .before .before .before .before in
+    let at-constrain = c .before .before .before .before in
+    row-on _ (at-friction-refusal .friction-refusal .result) _ _ _ _ _ _ _ _ _ _ _ (at-friction-refusal .friction-refusal .ensures) (at-if1 .if1 .left) (at-dof-count .dof-count .ensures) (at-dof-at .dof-at .ensures ∙ dof-byte (start .args .arm) (start .args .link) (start .args .axis) (at-axis-byte .axis-byte .result) (at-axis-byte .axis-byte .ensures)) (at-friction-bounds .friction-bounds .ensures ∙ ap (λ (f : Float). frictionBounds f (start .args .dt)) (at-friction-at .friction-at .ensures)) (at-constrain .constrain .ensures)
 
 pub friction-row-spec : {M : Type 1} → statement M
 friction-row-spec =

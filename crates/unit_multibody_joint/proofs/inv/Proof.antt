@@ -1,5 +1,4 @@
 -- `inv`: each branch is its case of the definition. Assumes nothing.
-use borrow.Author.Needs.{needs}
 use Rattle.unit_multibody_joint.specs.Rows.{inverse}
 use Rattle.unit_multibody_joint.proofs.inv.Statement.{statement}
 use Rattle.unit_multibody_joint.proofs.inv.Tie as tie

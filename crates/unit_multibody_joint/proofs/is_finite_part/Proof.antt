@@ -34,7 +34,11 @@ all-finite-requires : tie.Need-all-finite-requires
 all-finite-requires c κs = search needs
 
 returns : tie.Need-returns
-returns c = c .all-finite .ensures ∙ ap allFinite (cut (c .before .before .before .before .before .args .at) (c .before .before .before .before .before .args .n) (c .before .before .before .fewer .result) (c .before .before .fewer2 .result) (c .before .before .before .before .before .args .s .now) (c .before .before .before .fewer .ensures) (c .before .before .fewer2 .ensures))
+returns c =
+    let start = c .before .before .before .before .before in
+    let at-fewer = c .before .before .before in
+    let at-fewer2 = c .before .before in
+    c .all-finite .ensures ∙ ap allFinite (cut (start .args .at) (start .args .n) (at-fewer .fewer .result) (at-fewer2 .fewer2 .result) (start .args .s .now) (at-fewer .fewer .ensures) (at-fewer2 .fewer2 .ensures))
 
 pub is-finite-part-spec : {M : Type 1} → statement M
 is-finite-part-spec =

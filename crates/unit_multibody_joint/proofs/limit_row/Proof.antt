@@ -6,8 +6,6 @@ use Rattle.unit_multibody_joint.specs.Answers.{limitAnswer}
 use Rattle.unit_multibody_joint.specs.Refusals.{limitRefusal}
 use mathlib.Core.Path.{_∙_, sym}
 use Rattle.arm.proofs.Shape.{links-length}
-use Rattle.arm.specs.Arm.{dofCountOf}
-use Rattle.arm.specs.Edits.{dofAt}
 use borrow.Author.Needs.{needs}
 use Rattle.unit_multibody_joint.proofs.limit_row.Statement.{statement}
 use Rattle.unit_multibody_joint.proofs.limit_row.Tie as tie
@@ -20,7 +18,9 @@ refused-row-requires c κs = search needs
 
 returns : tie.Need-returns
 unfolding limitAnswer
-returns c = row-refused _ _ _ _ _ _ _ _ (c .before .before .limit-refusal .result) (c .refused-row .result) (c .before .before .limit-refusal .ensures) (c .before .if1 .taken) (c .refused-row .ensures)
+returns c =
+    let at-limit-refusal = c .before .before in
+    row-refused _ _ _ _ _ _ _ _ (at-limit-refusal .limit-refusal .result) (c .refused-row .result) (at-limit-refusal .limit-refusal .ensures) (c .before .if1 .taken) (c .refused-row .ensures)
 
 dof-count-requires : tie.Need-dof-count-requires
 dof-count-requires c κs = search needs
@@ -36,7 +36,14 @@ limit-bounds-requires c κs = search needs
 
 constrain-requires : tie.Need-constrain-requires
 unfolding limitRefusal
-constrain-requires c κs = row-ready (c .before .before .before .before .before .before .before .before .before .before .before .args .arm) (c .before .before .before .before .before .before .before .before .before .before .before .args .link) (c .before .before .before .before .before .before .before .before .before .before .before .args .axis) _ _ (c .before .before .before .before .before .before .before .before .before .before .before .args .mass .now) _ _ (sym (c .before .before .before .before .before .before .before .limit-refusal .ensures) ∙ c .before .before .before .before .before .before .if1 .left) (c .before .before .before .before .before .dof-count .result) (c .before .before .before .before .axis-byte .result) (c .before .before .before .dof-at .result) (c .before .before .before .before .before .dof-count .ensures) (c .before .before .before .before .axis-byte .ensures) (c .before .before .before .dof-at .ensures) (links-length (c .before .before .before .before .before .before .before .before .before .before .before .args .arm) (c .before .before .before .before .before .before .before .before .before .before .before .good .0))
+constrain-requires c κs =
+    let start = c .before .before .before .before .before .before .before .before .before .before .before in
+    let at-limit-refusal = c .before .before .before .before .before .before .before in
+    let at-if1 = c .before .before .before .before .before .before in
+    let at-dof-count = c .before .before .before .before .before in
+    let at-axis-byte = c .before .before .before .before in
+    let at-dof-at = c .before .before .before in
+    row-ready (start .args .arm) (start .args .link) (start .args .axis) _ _ (start .args .mass .now) _ _ (sym (at-limit-refusal .limit-refusal .ensures) ∙ at-if1 .if1 .left) (at-dof-count .dof-count .result) (at-axis-byte .axis-byte .result) (at-dof-at .dof-at .result) (at-dof-count .dof-count .ensures) (at-axis-byte .axis-byte .ensures) (at-dof-at .dof-at .ensures) (links-length (start .args .arm) (start .good .0))
 
 same-length : tie.Need-same-length
 same-length c = search needs
@@ -46,7 +53,16 @@ same-length-2 c = search needs
 
 returns-2 : tie.Need-returns-2
 unfolding limitAnswer
-returns-2 c = row-on _ (c .before .before .before .before .before .before .before .before .before .before .before .before .limit-refusal .result) _ _ _ _ _ _ _ _ _ _ _ (c .before .before .before .before .before .before .before .before .before .before .before .before .limit-refusal .ensures) (c .before .before .before .before .before .before .before .before .before .before .before .if1 .left) (c .before .before .before .before .before .before .before .before .before .before .dof-count .ensures) (c .before .before .before .before .before .before .before .before .dof-at .ensures ∙ dof-byte (c .before .before .before .before .before .before .before .before .before .before .before .before .before .before .before .before .args .arm) (c .before .before .before .before .before .before .before .before .before .before .before .before .before .before .before .before .args .link) (c .before .before .before .before .before .before .before .before .before .before .before .before .before .before .before .before .args .axis) (c .before .before .before .before .before .before .before .before .before .axis-byte .result) (c .before .before .before .before .before .before .before .before .before .axis-byte .ensures)) (c .before .before .before .before .before .before .before .limit-bounds .ensures) (c .before .before .before .before .constrain .ensures)
+returns-2 c =
+    let start = c .before .before .before .before .before .before .before .before .before .before .before .before .before .before .before .before in
+    let at-limit-refusal = c .before .before .before .before .before .before .before .before .before .before .before .before in
+    let at-if1 = c .before .before .before .before .before .before .before .before .before .before .before in
+    let at-dof-count = c .before .before .before .before .before .before .before .before .before .before in
+    let at-axis-byte = c .before .before .before .before .before .before .before .before .before in
+    let at-dof-at = c .before .before .before .before .before .before .before .before in
+    let at-limit-bounds = c .before .before .before .before .before .before .before in
+    let at-constrain = c .before .before .before .before in
+    row-on _ (at-limit-refusal .limit-refusal .result) _ _ _ _ _ _ _ _ _ _ _ (at-limit-refusal .limit-refusal .ensures) (at-if1 .if1 .left) (at-dof-count .dof-count .ensures) (at-dof-at .dof-at .ensures ∙ dof-byte (start .args .arm) (start .args .link) (start .args .axis) (at-axis-byte .axis-byte .result) (at-axis-byte .axis-byte .ensures)) (at-limit-bounds .limit-bounds .ensures) (at-constrain .constrain .ensures)
 
 pub limit-row-spec : {M : Type 1} → statement M
 limit-row-spec =

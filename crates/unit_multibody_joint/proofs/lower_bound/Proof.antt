@@ -1,5 +1,4 @@
 -- `lower_bound`: each branch is its case of the definition. Assumes nothing.
-use borrow.Author.Needs.{needs}
 use Rattle.unit_multibody_joint.specs.Rows.{lowerBound}
 use Rattle.unit_multibody_joint.proofs.lower_bound.Statement.{statement}
 use Rattle.unit_multibody_joint.proofs.lower_bound.Tie as tie

@@ -1,5 +1,4 @@
 -- `positive_part`: each branch is its case of the definition. Assumes nothing.
-use borrow.Author.Needs.{needs}
 use Rattle.unit_multibody_joint.specs.Rows.{positive}
 use Rattle.unit_multibody_joint.proofs.positive_part.Statement.{statement}
 use Rattle.unit_multibody_joint.proofs.positive_part.Tie as tie

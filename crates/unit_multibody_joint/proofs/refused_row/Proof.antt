@@ -1,6 +1,5 @@
 -- `refused_row`: the definition, field by field. Assumes nothing.
 use mathlib.Core.Path.{refl}
-use borrow.Author.Needs.{needs}
 use Rattle.unit_multibody_joint.specs.Rows.{refusedRow}
 use Rattle.unit_multibody_joint.proofs.refused_row.Statement.{statement}
 use Rattle.unit_multibody_joint.proofs.refused_row.Tie as tie

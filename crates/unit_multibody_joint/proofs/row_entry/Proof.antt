@@ -2,7 +2,6 @@
 use native.Mathlib.Nat.{sub-zero}
 use native.Mathlib.Omega.{arith}
 use Rattle.arm.proofs.Shape.{row-length}
-use Rattle.floats.specs.Floats.{entryOf}
 use borrow.Author.Needs.{needs}
 use Rattle.unit_multibody_joint.proofs.row_entry.Statement.{statement}
 use Rattle.unit_multibody_joint.proofs.row_entry.Tie as tie

@@ -1,5 +1,4 @@
 -- `upper_bound`: each branch is its case of the definition. Assumes nothing.
-use borrow.Author.Needs.{needs}
 use Rattle.unit_multibody_joint.specs.Rows.{upperBound}
 use Rattle.unit_multibody_joint.proofs.upper_bound.Statement.{statement}
 use Rattle.unit_multibody_joint.proofs.upper_bound.Tie as tie

@@ -1,0 +1,5 @@
+mod Rows
+mod Wild
+mod Filled
+mod Accepted
+pub mod Theorems
