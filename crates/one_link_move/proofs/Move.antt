@@ -29,7 +29,7 @@ use Rattle.kinematics.specs.Blocks.{blockAt}
 use Rattle.kinematics.specs.Link.{finiteKept}
 use Rattle.kinematics.specs.State.{state, noLink, linkAt, parentOf, lockedOf, inputsOf, keptAt, keptOps, marked}
 use Rattle.kinematics.proofs.Pass.{new-same}
-use Rattle.kinematics.proofs.Small.{differ}
+use Rattle.topology.proofs.Small.{differ}
 use Rattle.working.specs.Full.{Settled}
 use Rattle.settled.specs.Above.{aboveFinite}
 use Rattle.settled.specs.Pass.{Fresh, Ready}
@@ -115,13 +115,13 @@ module _ (a : Arm) (t : List Float) (sized : Sized a) (settled : Settled a t) (l
       mark-of j h (above (omega arith) (of-mark (by-list.parentOf (parentsOf a) j) (omega arith) (subst (λ (i : ℕ). b i ≡ true) p e)))
 
   not-link : (j : ℕ) → j < n → b j ≡ false → j ≢ link
-  not-link j h e q = differ (sym (subst (λ (i : ℕ). b i ≡ true) (sym q) (mark-of link (k .there) itself)) ∙ e)
+  not-link j h e q = absurd (differ (sym (subst (λ (i : ℕ). b i ≡ true) (sym q) (mark-of link (k .there) itself)) ∙ e))
 
   not-child : (j : ℕ) → j < n → b j ≡ false → parentOf ls j ≢ link
   not-child j h e q = elim (decLt (parentOf ls j) j) [
     | yes l ↦
         let l′ : parentOf ls′ j < j = omega (arith, parent-after j) in
-        differ (sym (closed j h l′ (subst (λ (i : ℕ). b i ≡ true) (sym (parent-after j ∙ q)) (mark-of link (k .there) itself))) ∙ e)
+        absurd (differ (sym (closed j h l′ (subst (λ (i : ℕ). b i ≡ true) (sym (parent-after j ∙ q)) (mark-of link (k .there) itself))) ∙ e))
     | no l ↦
         let own : parentOf ls j ≡ j = omega (arith, parent-le a (sized .links) (facts-of .few) (facts-of .ok .parents) j h) in
         not-link j h e (sym own ∙ q)
