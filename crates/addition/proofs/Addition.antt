@@ -27,7 +27,7 @@ use Rattle.kinematics.specs.State.{state, noLink, linkAt, parentOf, lockedOf, i
 use Rattle.kinematics.proofs.Blocks.{with-length}
 use Rattle.kinematics.proofs.Pass.{new-same}
 use Rattle.working.specs.Full.{Settled}
-use Rattle.settled.specs.Pass.{Fresh, Ready}
+use Rattle.kinematics.specs.Promises.{Fresh, Ready}
 use Rattle.settled.specs.Promise.{entriesOf, Sized}
 use Rattle.settled.proofs.Parents.{parent-le}
 use Rattle.settled.proofs.Modified.{length-modify, modify-same, modify-other}

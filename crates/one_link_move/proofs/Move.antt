@@ -32,7 +32,7 @@ use Rattle.kinematics.proofs.Pass.{new-same}
 use Rattle.topology.proofs.Small.{differ}
 use Rattle.working.specs.Full.{Settled}
 use Rattle.settled.specs.Above.{aboveFinite}
-use Rattle.settled.specs.Pass.{Fresh, Ready}
+use Rattle.kinematics.specs.Promises.{Fresh, Ready}
 use Rattle.settled.specs.Promise.{Sized}
 use Rattle.settled.proofs.Lowest.{none-of, holds}
 use Rattle.settled.proofs.Accepted.{Accepted}

@@ -1,6 +1,5 @@
 mod Block
 pub mod Lowest
-pub mod Pass
 pub mod Accepted
 pub mod Lists
 pub mod Relinked

@@ -31,9 +31,10 @@ use Rattle.kinematics.proofs.Store.{Good, blank, after-blank}
 use Rattle.kinematics.proofs.Blocks.{block-front}
 use Rattle.working.specs.Outcome.{Outcome, out, says, unlessRefused, tablesFit, workedBy, workedAll, workedMarked}
 use Rattle.working.specs.Full.{fullRefusal, fullWorking, Settled}
-use Rattle.settled.specs.Pass.{Fresh, Fits, Ready}
+use Rattle.kinematics.specs.Promises.{Fresh, Fits, Ready}
 use Rattle.settled.proofs.Lowest.{none-of, holds}
-use Rattle.settled.proofs.Pass.{replicated, after-good, all-fresh, stays, like-full}
+use Rattle.kinematics.proofs.Blocks.{replicated}
+use Rattle.kinematics.proofs.Promises.{after-good, all-fresh, stays, like-full}
 use Rattle.settled.proofs.Accepted.{Accepted, accepted, not-refused}
 use Rattle.settled.proofs.Lists.{every-at, every-of, same-map}
 use Rattle.settled.proofs.Relinked.{relinked, link-finite}

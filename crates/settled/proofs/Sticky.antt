@@ -18,8 +18,8 @@ use Rattle.arm.specs.declared.Arm.{Arm}
 use Rattle.arm.proofs.Accepted.{both-hold}
 use Rattle.kinematics.specs.Link.{Kept, Inputs, rootPosed, laterPosed, keptOf, rootKept, laterKept, finitePlace, finiteKept}
 use Rattle.kinematics.specs.State.{linkAt, parentOf, inputsOf, keptAt, cleared}
-use Rattle.settled.specs.Pass.{Fits}
-use Rattle.settled.proofs.Pass.{all-fresh}
+use Rattle.kinematics.specs.Promises.{Fits}
+use Rattle.kinematics.proofs.Promises.{all-fresh}
 use Rattle.settled.proofs.Lists.{both}
 use Rattle.settled.proofs.Settles.{allState, allFine, cleared-long, fine-at}
 
