@@ -18,7 +18,7 @@ use Rattle.masks.proofs.Laws.{dofs-le}
 use Rattle.arm.specs.declared.Link.{Link}
 use Rattle.arm.specs.declared.Row.{Row}
 use Rattle.arm.specs.declared.Arm.{Arm}
-use Rattle.arm.specs.Arm.{dofCountOf}
+use Rattle.arm.specs.Arm.{dofCountOf, entriesOf}
 use Rattle.arm.specs.Edits.{modify}
 use Rattle.arm.proofs.Lists.{map-take, map-at}
 use Rattle.kinematics.specs.Blocks.{blockAt}
@@ -28,7 +28,7 @@ use Rattle.kinematics.proofs.Blocks.{with-length}
 use Rattle.kinematics.proofs.Pass.{new-same}
 use Rattle.working.specs.Full.{Settled}
 use Rattle.kinematics.specs.Promises.{Fresh, Ready}
-use Rattle.settled.specs.Promise.{entriesOf, Sized}
+use Rattle.arm.specs.Agree.{Sized}
 use Rattle.settled.proofs.Parents.{parent-le}
 use Rattle.settled.proofs.Modified.{length-modify, modify-same, modify-other}
 use Rattle.settled.proofs.Settles.{Facts, facts}

@@ -5,7 +5,8 @@ use mathlib.Core.List.{List}
 use lib.Ieee.{Float}
 use Rattle.arm.specs.declared.Arm.{Arm}
 use Rattle.working.specs.Full.{Settled}
-use Rattle.settled.specs.Promise.{Sized, Right}
+use Rattle.arm.specs.Agree.{Sized}
+use Rattle.settled.specs.Promise.{Right}
 use Rattle.addition.specs.declared.NewLink.{NewLink}
 use Rattle.addition.specs.NewLink.{addedInputs}
 use Rattle.addition.specs.Addition.{addRefusal, linkAdded}

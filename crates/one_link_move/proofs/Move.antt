@@ -33,7 +33,7 @@ use Rattle.topology.proofs.Small.{differ}
 use Rattle.working.specs.Full.{Settled}
 use Rattle.settled.specs.Above.{aboveFinite}
 use Rattle.kinematics.specs.Promises.{Fresh, Ready}
-use Rattle.settled.specs.Promise.{Sized}
+use Rattle.arm.specs.Agree.{Sized}
 use Rattle.settled.proofs.Lowest.{none-of, holds}
 use Rattle.settled.proofs.Accepted.{Accepted}
 use Rattle.settled.proofs.Lists.{same-map, same-front, same-tests}

@@ -7,7 +7,8 @@ use Rattle.topology.specs.Parents.{parentOf}
 use Rattle.arm.specs.declared.Arm.{Arm}
 use Rattle.arm.specs.Arm.{parentsOf}
 use Rattle.working.specs.Full.{Settled}
-use Rattle.settled.specs.Promise.{Sized, Right}
+use Rattle.arm.specs.Agree.{Sized}
+use Rattle.settled.specs.Promise.{Right}
 use Rattle.one_link_move.specs.declared.Change.{Change}
 use Rattle.one_link_move.specs.Change.{movedInputs}
 use Rattle.one_link_move.specs.Move.{moveRefusal, linkMoved}

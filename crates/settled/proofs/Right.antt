@@ -14,7 +14,8 @@ use Rattle.kinematics.specs.State.{State, linkAt, stateAfter, fineAfter}
 use Rattle.working.specs.Outcome.{Outcome, says, unlessRefused, workedAll, workedMarked}
 use Rattle.working.specs.Full.{fullRefusal, fullWorking, Settled}
 use Rattle.kinematics.specs.Promises.{Fits, Ready}
-use Rattle.settled.specs.Promise.{Sized, Right}
+use Rattle.arm.specs.Agree.{Sized}
+use Rattle.settled.specs.Promise.{Right}
 use Rattle.kinematics.proofs.Promises.{after-good, stays, like-full}
 use Rattle.settled.proofs.Accepted.{Accepted, not-refused}
 use Rattle.settled.proofs.Settles.{allState, allFine, workedTo, worked-all, worked-marked, full-is, settles, facts}

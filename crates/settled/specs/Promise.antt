@@ -3,26 +3,16 @@
 use Prim.Native.Nat.{ℕ, _<_}
 use mathlib.Core.Path.{_≡_}
 use mathlib.Core.Logic.{_↔_}
-use mathlib.Core.List.{List, [], map}
-use lib.ListN.{length, getD, drop}
+use mathlib.Core.List.{List}
+use lib.ListN.{drop}
 use lib.Ieee.{Float}
-use Rattle.limits.specs.Limits.{linkLimit, couplingLimit, dofLimit, tableSize}
-use Rattle.arm.specs.declared.Row.{Row}
+use Rattle.limits.specs.Limits.{linkLimit, tableSize}
 use Rattle.arm.specs.declared.Arm.{Arm}
+use Rattle.arm.specs.Agree.{Sized}
 use Rattle.kinematics.specs.Blocks.{blockAt}
 use Rattle.kinematics.specs.State.{linkAt}
 use Rattle.working.specs.Outcome.{Outcome, workedAll}
 use Rattle.working.specs.Full.{fullWorking, Settled}
-
-abbrev pub entriesOf : Row → List Float
-entriesOf row = row .entries
-
--- the arrays have their lengths, as those of any arm that code holds
-pub record Sized (a : Arm) : Type 0 where
-  pub links : length (a .links) ≡ linkLimit
-  pub couplings : length (a .couplings) ≡ couplingLimit
-  pub rows : length (a .rows) ≡ 5
-  pub entries : (k : ℕ) → k < 5 → length (getD (map entriesOf (a .rows)) k []) ≡ dofLimit
 
 -- link j and its block are, bit for bit, as they were
 abbrev pub Untouched : Arm → List Float → Outcome → ℕ → Type 0
