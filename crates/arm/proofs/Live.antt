@@ -1,5 +1,5 @@
 -- The links that count, in an arm whose arrays have their lengths: as many as the count says, each the array's own. Assumes nothing.
-use Prim.Native.Nat.{ℕ, zero, suc, min, _+_, _-_, _*_, _≤_, _<_}
+use Prim.Native.Nat.{ℕ, zero, suc, min, _+_, _-_, _≤_, _<_}
 use mathlib.Core.Path.{_≡_, refl, sym, _∙_, ap}
 use mathlib.Core.Bool.{true, _||_}
 use mathlib.Core.Logic.{inl, inr}
@@ -7,14 +7,13 @@ use mathlib.Core.List.{List, [], _∷_, map}
 use native.Mathlib.Nat.{eq-zero-or-pos}
 use native.Mathlib.Omega.{arith}
 use lib.Dec.{eqb}
-use lib.ListN.{length, take, getD, length-take, length-map, List·getD-eq-default}
+use lib.ListN.{length, take, getD, length-take, length-map}
 use lib.Seq.{getD-take, length-take-le}
 use Rattle.limits.specs.Limits.{linkLimit, dofLimit}
 use Rattle.masks.specs.Masks.{dofsBelow, dofsOf}
 use Rattle.masks.specs.Starts.{totalOf, startOf}
 use Rattle.masks.proofs.Laws.{dofs-le, below-le}
 use Rattle.masks.proofs.Totals.{start-next, start-all, start-in, total-le}
-use Rattle.masks.proofs.Totals as totals
 use Rattle.arm.specs.declared.Link.{Link}
 use Rattle.arm.specs.declared.Arm.{Arm}
 use Rattle.arm.specs.Arm.{liveLinks, linksOf, lockedOf, parentOf, tagOf, tagsOf, parentsOf, masksOf, maskAt, startAt, dofCountOf}
@@ -46,16 +45,12 @@ module _ (a : Arm) (whole : length (a .links) ≡ linkLimit) where
   unfolding parentsOf
   parents-live = length-map (linksOf a) parentOf ∙ links-live
 
-  -- the mask of a link that counts, and of one that does not
+  -- the mask of a link that counts
   pub mask-there : (i : ℕ) (d : Link) → i < liveLinks a → getD (a .links) i d .joint .locked ≡ maskAt a i
   unfolding maskAt masksOf linksOf
   mask-there i d h =
       sym (map-at lockedOf (take (liveLinks a) (a .links)) i d 7 (omega (arith, length-take-le (liveLinks a) (a .links) live-fits))
       ∙ ap lockedOf (getD-take (liveLinks a) (a .links) i d h))
-
-  pub mask-past : (i : ℕ) → liveLinks a ≤ i → 7 ≡ maskAt a i
-  unfolding maskAt
-  mask-past i h = sym (List·getD-eq-default (masksOf a) 7 (omega (arith, masks-live)))
 
   -- a turn of a loop that sums the DoFs
   pub start-more : (i : ℕ) (s r : ℕ) (d : Link) → i < liveLinks a → s ≡ startAt a i → r ≡ dofsOf (getD (a .links) i d .joint .locked)
@@ -65,18 +60,6 @@ module _ (a : Arm) (whole : length (a .links) ≡ linkLimit) where
       let e : getD (a .links) i d .joint .locked ≡ maskAt a i = mask-there i d h in
       let z : dofsOf (getD (a .links) i d .joint .locked) ≡ dofsOf (getD (masksOf a) i 7) = ap dofsOf e in
       omega (arith, start-next (masksOf a) i 7 (omega (arith, masks-live)))
-
-  -- past the last, all are counted
-  pub start-past : (i j : ℕ) → liveLinks a ≤ i → liveLinks a ≤ j → startAt a i ≡ startAt a j
-  unfolding startAt
-  start-past i j h k = start-all (masksOf a) i (omega (arith, masks-live)) ∙ sym (start-all (masksOf a) j (omega (arith, masks-live)))
-
-  -- the end of the loop
-  pub start-end : (link i : ℕ) → i ≡ min link (liveLinks a) → startAt a i ≡ startAt a link
-  start-end link i e = elim (eq-zero-or-pos (link - liveLinks a)) [
-    | inl l ↦ let s : i ≡ link = omega arith in ap (startAt a) s
-    | inr l ↦ start-past i link (omega arith) (omega arith)
-  ]
 
   -- at any count that is no less, the start is the whole
   pub start-whole : (i : ℕ) → liveLinks a ≤ i → startAt a i ≡ dofCountOf a
@@ -88,22 +71,29 @@ module _ (a : Arm) (whole : length (a .links) ≡ linkLimit) where
   unfolding startAt maskAt dofCountOf
   part-within i h = start-in (masksOf a) i 7 (omega (arith, masks-live))
 
-  -- what the fronts of the arrays of all tags and parents are
+  -- what the fronts of the arrays of all tags, masks and parents are
   pub tags-front : take (liveLinks a) (map tagOf (a .links)) ≡ tagsOf a
   unfolding tagsOf linksOf
   tags-front = map-take tagOf (liveLinks a) (a .links)
+
+  pub masks-front : take (liveLinks a) (map lockedOf (a .links)) ≡ masksOf a
+  unfolding masksOf linksOf
+  masks-front = map-take lockedOf (liveLinks a) (a .links)
 
   pub parents-front : take (liveLinks a) (map parentOf (a .links)) ≡ parentsOf a
   unfolding parentsOf linksOf
   parents-front = map-take parentOf (liveLinks a) (a .links)
 
+-- past the end of a list of masks, all are counted
+pub start-fewer : (ms : List ℕ) (link i : ℕ) → i ≡ min link (length ms) → startOf ms i ≡ startOf ms link
+start-fewer ms link i e = elim (eq-zero-or-pos (link - length ms)) [
+  | inl l ↦ let s : i ≡ link = omega arith in ap (startOf ms) s
+  | inr l ↦ start-all ms i (omega arith) ∙ sym (start-all ms link (omega arith))
+]
+
 pub start-none : (a : Arm) → 0 ≡ startAt a 0
 unfolding startAt startOf totalOf
 start-none a = refl
-
-pub start-le : (a : Arm) (i : ℕ) → startAt a i ≤ 3 * i
-unfolding startAt
-start-le a i = totals.start-le (masksOf a) i
 
 -- no start lies past the DoF count
 within : (ms : List ℕ) (i : ℕ) → startOf ms i ≤ totalOf ms

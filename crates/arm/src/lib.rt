@@ -3,8 +3,10 @@
 ghost use mathlib.Core.Path.{_≡_};
 ghost use mathlib.Core.List.{map};
 ghost use Prim.Native.Nat.{min, _≤_};
+ghost use lib.ListN.{length, getD};
 ghost use Rattle.limits.specs.Limits.{linkLimit, dofLimit};
-ghost use Rattle.arm.specs.Arm.{tagOf, parentOf, startAt, dofCountOf, maskAt, rowNumber};
+ghost use Rattle.masks.specs.Starts.{startOf};
+ghost use Rattle.arm.specs.Arm.{tagOf, parentOf, lockedOf, startAt, dofCountOf, maskAt, rowNumber};
 ghost use Rattle.arm.specs.Edits.{dofAt};
 ghost use Rattle.arm.specs.HandedIn.{isNew, unique, tagsUnique, parentsEarlier, jointMasksFit, jointFinite, linkFinite, angleFits, linkTestsOf, couplingLinksFit, couplingAxesFit, couplingFinite, couplingTestsOf, rootFits, rowFinite, rowsFinite, armRefusal};
 use floats::all_finite;
@@ -122,30 +124,58 @@ pub fn parents_of(arm: Arm) -> [u8; LINKS]
     parents
 }
 
+// The locked mask of each place for a link. It is read off once, so that no caller indexes into a copy of the whole arm.
+fn masks_of(arm: Arm) -> [u8; LINKS]
+    ensures { λ r. ⌜ r ≡ map lockedOf (arm .links) ⌝ }
+{
+    let mut masks = [0u8; LINKS];
+    let mut i = 0;
+    while i < LINKS {
+        let l = arm.links[i];
+        masks[i] = l.joint.locked;
+        i += 1;
+    }
+    masks
+}
+
+// What stands at a link in a list of masks; past its end all is locked.
+fn mask_in(masks: &[u8], link: usize) -> u8
+    ensures { λ r. ⌜ r ≡ getD (now (masks .entry)) link 7 ⌝ }
+{
+    if link < masks.len() { masks[link] } else { 7 }
+}
+
+// The DoFs of the masks before a link's.
+fn start_in(masks: &[u8], link: usize) -> usize
+    requires { ⌜ length (now masks) ≤ linkLimit ⌝ }
+    ensures { λ r. ⌜ r ≡ startOf (now (masks .entry)) link ⌝ }
+{
+    let n = fewer(link, masks.len());
+    let mut start: usize = 0;
+    let mut i = 0;
+    while i < n {
+        start += dofs(masks[i]);
+        i += 1;
+    }
+    start
+}
+
 // The locked mask of a link; where there is no such link, all is locked.
 pub fn mask_at(arm: Arm, link: usize) -> u8
     ensures { λ r. ⌜ r ≡ maskAt arm link ⌝ }
 {
-    if link < live_links(arm.link_count) {
-        let l = arm.links[link];
-        return l.joint.locked;
-    }
-    7
+    let n = live_links(arm.link_count);
+    let masks = masks_of(arm);
+    mask_in(&masks[0..n], link)
 }
 
 // The start of a link: the DoFs of all earlier links.
 pub fn start_of(arm: Arm, link: usize) -> usize
     ensures { λ r. ⌜ r ≡ startAt arm link ⌝ }
 {
-    let n = fewer(link, live_links(arm.link_count));
-    let mut start: usize = 0;
-    let mut i = 0;
-    while i < n {
-        let l = arm.links[i];
-        start += dofs(l.joint.locked);
-        i += 1;
-    }
-    start
+    let n = live_links(arm.link_count);
+    let masks = masks_of(arm);
+    start_in(&masks[0..n], link)
 }
 
 pub fn dof_count(arm: Arm) -> usize
@@ -260,12 +290,13 @@ fn link_tests(arm: Arm) -> LinkTests
     ensures { λ r. ⌜ r ≡ linkTestsOf arm ⌝ }
 {
     let n = live_links(arm.link_count);
+    let links = arm.links;
     let mut masks = true;
     let mut floats = true;
     let mut angles = true;
     let mut i = 0;
     while i < n {
-        let l = arm.links[i];
+        let l = links[i];
         masks = masks & masks_fit(l.joint);
         floats = floats & is_finite_link(l);
         angles = angles & angle_fits(l.joint);
@@ -328,12 +359,13 @@ fn coupling_tests(arm: Arm) -> CouplingTests
     ensures { λ r. ⌜ r ≡ couplingTestsOf arm ⌝ }
 {
     let n = fewer(arm.coupling_count, COUPLINGS);
+    let couplings = arm.couplings;
     let mut links = true;
     let mut axes = true;
     let mut floats = true;
     let mut i = 0;
     while i < n {
-        let c = arm.couplings[i];
+        let c = couplings[i];
         links = links & links_fit(c, arm.link_count);
         axes = axes & axes_fit(c);
         floats = floats & is_finite_coupling(c);
@@ -361,10 +393,11 @@ fn rows_finite(arm: Arm) -> bool
     ensures { λ r. ⌜ r ≡ rowsFinite arm ⌝ }
 {
     let n = dof_count(arm);
+    let rows = arm.rows;
     let mut ok = true;
     let mut i = 0;
     while i < 5 {
-        let row = arm.rows[i];
+        let row = rows[i];
         ok = ok & is_finite_row(row, n);
         i += 1;
     }

@@ -66,18 +66,14 @@ pub fn write_row(arm: Arm, name: RowName, link: u32, axis: u32, value: f32) -> E
     ensures { λ r. ⌜ r ≡ rowWritten arm name link axis value ⌝ }
 {
     let refusal = write_refusal(arm, link, axis, value);
-    if refusal != 0 {
-        return Edited { refusal, arm };
-    }
-    let at = dof_at(arm, link as usize, axis as u8);
-    let k = arm::row_number(name);
-    let row = arm.rows[k];
     let mut new = arm;
-    new.rows[k] = with_entry(row, at, value);
-    Edited {
-        refusal: 0,
-        arm: new,
+    if refusal == 0 {
+        let at = dof_at(arm, link as usize, axis as u8);
+        let k = arm::row_number(name);
+        let row = new.rows[k];
+        new.rows[k] = with_entry(row, at, value);
     }
+    Edited { refusal, arm: new }
 }
 
 // ---- Springs

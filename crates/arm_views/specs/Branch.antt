@@ -1,11 +1,10 @@
 -- `kinematic_branch` of an arm: from the root to a link, into lent memory.
 use Prim.Native.Nat.{ℕ}
-use mathlib.Core.Bool.{cond, _&&_}
 use mathlib.Core.List.{List, _∷_}
-use lib.Dec.{leb, ltb}
+use lib.Dec.{leb}
 use lib.ListN.{length}
 use Rattle.refusal.specs.Refusal.{unlessOf, lowest}
-use Rattle.topology.specs.Parents.{parentsFit, branch}
+use Rattle.topology.specs.Parents.{branch}
 use Rattle.topology.specs.Answers.{Outcome, given}
 use Rattle.topology.specs.declared.Counted.{Counted}
 use Rattle.arm.specs.declared.Arm.{Arm}
@@ -16,12 +15,9 @@ use Rattle.arm.specs.HandedIn.{armEntries}
 abbrev pub out : Counted → List ℕ → Outcome
 out r m = record { answer = r; memory = m }
 
--- how many places a branch needs: none where there is no such link, or where the parents are no tree
-unfoldable pub neededIn : List ℕ → ℕ → ℕ
-neededIn ps link = cond (ltb link (length ps) && parentsFit ps) (length (branch ps link)) 0
-
+-- how many places a branch needs: it climbs while the parent is earlier; none where there is no such link
 unfoldable pub branchNeeded : Arm → ℕ → ℕ
-branchNeeded a link = neededIn (parentsOf a) link
+branchNeeded a link = length (branch (parentsOf a) link)
 
 abbrev pub branchEntries : Arm → ℕ → ℕ → List ℕ
 branchEntries a link room = unlessOf (leb (branchNeeded a link) room) 1 ∷ unlessOf (isLink a link) 4 ∷ armEntries a

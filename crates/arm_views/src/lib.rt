@@ -15,7 +15,6 @@ use arm::mask_at;
 use arm::parents_of;
 use arm::start_of;
 use floats::all_finite;
-use limits::LINKS;
 use masks::Count;
 use masks::dofs;
 use masks::is_axis;
@@ -154,15 +153,13 @@ pub fn jacobian_mul_coordinates(arm: Arm, link: u32, accelerations: &[f32]) -> A
 
 // ---- The branch of a link
 
-// How many places a branch needs: it is written into spare memory, where each fits.
+// How many places a branch needs.
 fn branch_needed(arm: Arm, link: usize) -> usize
     ensures { λ r. ⌜ r ≡ branchNeeded arm link ⌝ }
 {
     let n = live_links(arm.link_count);
     let parents = parents_of(arm);
-    let mut spare = [0u8; LINKS];
-    let written = topology::kinematic_branch(&parents[0..n], link, &mut spare);
-    written.count
+    topology::branch_length(&parents[0..n], link)
 }
 
 fn branch_refusal(arm: Arm, link: u32, room: usize) -> u8

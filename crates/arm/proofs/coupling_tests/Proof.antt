@@ -26,22 +26,22 @@ ended a w n i l x f e h p q r =
     (front-all (couplingLinksFit (a .«link_count»)) (a .couplings) n fits i l h p, front-all couplingAxesFit (a .couplings) n fits i x h q, front-all couplingFinite (a .couplings) n fits i f h r)
 
 abbrev Inv-loop : tie.InvT-loop
-Inv-loop arm n links₀ axes₀ floats₀ i₀ links axes floats i = (n ≡ min (arm .«coupling_count») couplingLimit) × (i ≤ n) × Tested (couplingLinksFit (arm .«link_count»)) (take n (arm .couplings)) i links × Tested couplingAxesFit (take n (arm .couplings)) i axes × Tested couplingFinite (take n (arm .couplings)) i floats
+Inv-loop arm n couplings links₀ axes₀ floats₀ i₀ links axes floats i = (n ≡ min (arm .«coupling_count») couplingLimit) × (i ≤ n) × Tested (couplingLinksFit (arm .«link_count»)) (take n couplings) i links × Tested couplingAxesFit (take n couplings) i axes × Tested couplingFinite (take n couplings) i floats
 
 abbrev μ-loop : tie.MeasureT-loop
-μ-loop arm n links₀ axes₀ floats₀ i₀ links axes floats i = n - i
+μ-loop arm n couplings links₀ axes₀ floats₀ i₀ links axes floats i = n - i
 
 fewer-requires : tie.Need-fewer-requires Inv-loop μ-loop
 fewer-requires c κs = search needs
 
 loop-holds : tie.Need-loop-holds Inv-loop μ-loop
-loop-holds c = (c .fewer .ensures, omega arith, refl, refl, refl)
+loop-holds c = (c .before .fewer .ensures, omega arith, refl, refl, refl)
 
 mul-c : tie.Need-mul-c Inv-loop μ-loop
 mul-c c = search needs
 
-element-copy-out-c : tie.Need-element-copy-out-c Inv-loop μ-loop
-element-copy-out-c c = search needs
+array-copy-out-c : tie.Need-array-copy-out-c Inv-loop μ-loop
+array-copy-out-c c = search needs
 
 links-fit-requires : tie.Need-links-fit-requires Inv-loop μ-loop
 links-fit-requires c κs = search needs
@@ -60,10 +60,10 @@ loop-less c = search needs
 
 loop-again : tie.Need-loop-again Inv-loop μ-loop
 loop-again c =
-    let a = c .before .before .before .before .before .before .before .args .t1 in
+    let a = c .before .before .before .before .before .before .before .before .args .arm in
     let k = c .before .before .before .before .before .loop in
-    let w = couplings-length a (c .before .before .before .before .before .before .before .good .0) in
-    let fits : c .before .before .before .before .before .before .fewer .result ≤ length (a .couplings) = omega arith in (
+    let w = couplings-length a (c .before .before .before .before .before .before .before .before .good .0) in
+    let fits : c .before .before .before .before .before .before .before .fewer .result ≤ length (a .couplings) = omega arith in (
       k .inv .0,
       omega arith,
       front-more (couplingLinksFit (a .«link_count»)) (a .couplings) _ fits (k .i) (k .links) _ _ (omega arith) (c .before .before .links-fit .ensures) (k .inv .2),
@@ -73,9 +73,9 @@ loop-again c =
 
 returns : tie.Need-returns Inv-loop μ-loop
 returns c =
-    let a = c .before .before .before .args .t1 in
+    let a = c .before .before .before .before .args .arm in
     let k = c .before .loop in
-    ended a (couplings-length a (c .before .before .before .good .0)) _ (k .i) (k .links) (k .axes) (k .floats) (k .inv .0) (omega arith) (k .inv .2) (k .inv .3) (k .inv .4)
+    ended a (couplings-length a (c .before .before .before .before .good .0)) _ (k .i) (k .links) (k .axes) (k .floats) (k .inv .0) (omega arith) (k .inv .2) (k .inv .3) (k .inv .4)
 
 pub coupling-tests-spec : {M : Type 1} → statement M
 coupling-tests-spec =
@@ -86,7 +86,7 @@ coupling-tests-spec =
     fewer-requires
     loop-holds
     mul-c
-    element-copy-out-c
+    array-copy-out-c
     links-fit-requires
     axes-fit-requires
     is-finite-coupling-requires

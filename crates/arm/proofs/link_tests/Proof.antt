@@ -25,22 +25,22 @@ ended a w n i m f g e h p q r =
     (front-all linkMasksFit (a .links) n fits i m h p, front-all linkFinite (a .links) n fits i f h q, front-all linkAngleFits (a .links) n fits i g h r)
 
 abbrev Inv-loop : tie.InvT-loop
-Inv-loop arm n masks₀ floats₀ angles₀ i₀ masks floats angles i = (n ≡ liveLinks arm) × (i ≤ n) × Tested linkMasksFit (take n (arm .links)) i masks × Tested linkFinite (take n (arm .links)) i floats × Tested linkAngleFits (take n (arm .links)) i angles
+Inv-loop n links masks₀ floats₀ angles₀ i₀ masks floats angles i = (i ≤ n) × Tested linkMasksFit (take n links) i masks × Tested linkFinite (take n links) i floats × Tested linkAngleFits (take n links) i angles
 
 abbrev μ-loop : tie.MeasureT-loop
-μ-loop arm n masks₀ floats₀ angles₀ i₀ masks floats angles i = n - i
+μ-loop n links masks₀ floats₀ angles₀ i₀ masks floats angles i = n - i
 
 live-links-requires : tie.Need-live-links-requires Inv-loop μ-loop
 live-links-requires c κs = search needs
 
 loop-holds : tie.Need-loop-holds Inv-loop μ-loop
-loop-holds c = (c .live-links .ensures, omega arith, refl, refl, refl)
+loop-holds c = (omega arith, refl, refl, refl)
 
 mul-l : tie.Need-mul-l Inv-loop μ-loop
 mul-l c = search needs
 
-element-copy-out-l : tie.Need-element-copy-out-l Inv-loop μ-loop
-element-copy-out-l c = search needs
+array-copy-out-l : tie.Need-array-copy-out-l Inv-loop μ-loop
+array-copy-out-l c = search needs
 
 masks-fit-requires : tie.Need-masks-fit-requires Inv-loop μ-loop
 masks-fit-requires c κs = search needs
@@ -59,22 +59,21 @@ loop-less c = search needs
 
 loop-again : tie.Need-loop-again Inv-loop μ-loop
 loop-again c =
-    let a = c .before .before .before .before .before .before .before .args .t1 in
+    let a = c .before .before .before .before .before .before .before .before .args .arm in
     let k = c .before .before .before .before .before .loop in
-    let w = links-length a (c .before .before .before .before .before .before .before .good .0) in
-    let fits : c .before .before .before .before .before .before .live-links .result ≤ length (a .links) = omega arith in (
-      k .inv .0,
+    let w = links-length a (c .before .before .before .before .before .before .before .before .good .0) in
+    let fits : c .before .before .before .before .before .before .before .live-links .result ≤ length (a .links) = omega arith in (
       omega arith,
-      front-more linkMasksFit (a .links) _ fits (k .i) (k .masks) _ _ (omega arith) (c .before .before .masks-fit .ensures) (k .inv .2),
-      front-more linkFinite (a .links) _ fits (k .i) (k .floats) _ _ (omega arith) (c .before .is-finite-link .ensures) (k .inv .3),
-      front-more linkAngleFits (a .links) _ fits (k .i) (k .angles) _ _ (omega arith) (c .angle-fits .ensures) (k .inv .4),
+      front-more linkMasksFit (a .links) _ fits (k .i) (k .masks) _ _ (omega arith) (c .before .before .masks-fit .ensures) (k .inv .1),
+      front-more linkFinite (a .links) _ fits (k .i) (k .floats) _ _ (omega arith) (c .before .is-finite-link .ensures) (k .inv .2),
+      front-more linkAngleFits (a .links) _ fits (k .i) (k .angles) _ _ (omega arith) (c .angle-fits .ensures) (k .inv .3),
     )
 
 returns : tie.Need-returns Inv-loop μ-loop
 returns c =
-    let a = c .before .before .before .args .t1 in
+    let a = c .before .before .before .before .args .arm in
     let k = c .before .loop in
-    ended a (links-length a (c .before .before .before .good .0)) _ (k .i) (k .masks) (k .floats) (k .angles) (k .inv .0) (omega arith) (k .inv .2) (k .inv .3) (k .inv .4)
+    ended a (links-length a (c .before .before .before .before .good .0)) _ (k .i) (k .masks) (k .floats) (k .angles) (c .before .before .before .live-links .ensures) (omega arith) (k .inv .1) (k .inv .2) (k .inv .3)
 
 pub link-tests-spec : {M : Type 1} → statement M
 link-tests-spec =
@@ -85,7 +84,7 @@ link-tests-spec =
     live-links-requires
     loop-holds
     mul-l
-    element-copy-out-l
+    array-copy-out-l
     masks-fit-requires
     is-finite-link-requires
     angle-fits-requires

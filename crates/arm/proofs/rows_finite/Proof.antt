@@ -25,25 +25,25 @@ ended a w n i ok e h t =
     ∙ sym (every-map allFinite (entriesTo (dofCountOf a)) (a .rows))
 
 abbrev Inv-loop : tie.InvT-loop
-Inv-loop arm n ok₀ i₀ ok i = (n ≡ dofCountOf arm) × (i ≤ 5) × Tested (rowFinite n) (arm .rows) i ok
+Inv-loop n rows ok₀ i₀ ok i = (i ≤ 5) × Tested (rowFinite n) rows i ok
 
 abbrev μ-loop : tie.MeasureT-loop
-μ-loop arm n ok₀ i₀ ok i = 5 - i
+μ-loop n rows ok₀ i₀ ok i = 5 - i
 
 dof-count-requires : tie.Need-dof-count-requires Inv-loop μ-loop
 dof-count-requires c κs = search needs
 
 loop-holds : tie.Need-loop-holds Inv-loop μ-loop
-loop-holds c = (c .dof-count .ensures, omega arith, refl)
+loop-holds c = (omega arith, refl)
 
 mul-row : tie.Need-mul-row Inv-loop μ-loop
 mul-row c = search needs
 
-element-copy-out-row : tie.Need-element-copy-out-row Inv-loop μ-loop
-element-copy-out-row c = search needs
+array-copy-out-row : tie.Need-array-copy-out-row Inv-loop μ-loop
+array-copy-out-row c = search needs
 
 is-finite-row-requires : tie.Need-is-finite-row-requires Inv-loop μ-loop
-is-finite-row-requires c κs = omega (arith, dof-count-le (c .before .before .before .before .args .t1), c .before .before .loop .inv .0)
+is-finite-row-requires c κs = omega (arith, dof-count-le (c .before .before .before .before .before .args .arm), c .before .before .before .before .dof-count .ensures)
 
 add-i : tie.Need-add-i Inv-loop μ-loop
 add-i c = search needs
@@ -53,16 +53,16 @@ loop-less c = search needs
 
 loop-again : tie.Need-loop-again Inv-loop μ-loop
 loop-again c =
-    let a = c .before .before .before .before .before .args .t1 in
+    let a = c .before .before .before .before .before .before .args .arm in
     let k = c .before .before .before .loop in
-    let w = rows-length a (c .before .before .before .before .before .good .0) in
-    (k .inv .0, omega arith, tested-more (rowFinite _) (a .rows) (k .i) (k .ok) _ _ (omega arith) (c .is-finite-row .ensures) (k .inv .2))
+    let w = rows-length a (c .before .before .before .before .before .before .good .0) in
+    (omega arith, tested-more (rowFinite _) (a .rows) (k .i) (k .ok) _ _ (omega arith) (c .is-finite-row .ensures) (k .inv .1))
 
 returns : tie.Need-returns Inv-loop μ-loop
 returns c =
-    let a = c .before .before .before .args .t1 in
+    let a = c .before .before .before .before .args .arm in
     let k = c .before .loop in
-    ended a (rows-length a (c .before .before .before .good .0)) _ (k .i) (k .ok) (k .inv .0) (omega arith) (k .inv .2)
+    ended a (rows-length a (c .before .before .before .before .good .0)) _ (k .i) (k .ok) (c .before .before .before .dof-count .ensures) (omega arith) (k .inv .1)
 
 pub rows-finite-spec : {M : Type 1} → statement M
 rows-finite-spec =
@@ -73,7 +73,7 @@ rows-finite-spec =
     dof-count-requires
     loop-holds
     mul-row
-    element-copy-out-row
+    array-copy-out-row
     is-finite-row-requires
     add-i
     loop-less

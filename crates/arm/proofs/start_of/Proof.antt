@@ -1,72 +1,40 @@
--- `start_of`: at each link the sum so far is its start. Assumes nothing.
-use Prim.Native.Nat.{_-_, _≤_, min}
-use mathlib.Core.Path.{_≡_, _∙_}
+-- `start_of`: the front of all masks are the masks of the links that count. Assumes nothing.
+use mathlib.Core.List.{List}
+use Prim.Native.Nat.{ℕ}
+use mathlib.Core.Path.{_∙_, ap}
 use native.Mathlib.Omega.{arith}
 use borrow.Author.Needs.{needs}
-use Rattle.arm.specs.Arm.{startAt, liveLinks}
+use Rattle.masks.specs.Starts.{startOf}
+use Rattle.arm.specs.Arm.{startAt}
 use Rattle.arm.proofs.Shape.{links-length}
-use Rattle.arm.proofs.Live.{start-le, start-more, start-none, start-end, dofs-small}
+use Rattle.arm.proofs.Lists.{front}
+use Rattle.arm.proofs.Live.{masks-front}
 use Rattle.arm.proofs.start_of.Statement.{statement}
 use Rattle.arm.proofs.start_of.Tie as tie
 
-abbrev Inv-loop : tie.InvT-loop
-Inv-loop link arm n start₀ i₀ start i = (n ≡ min link (liveLinks arm)) × (i ≤ n) × (start ≡ startAt arm i)
-
-abbrev μ-loop : tie.MeasureT-loop
-μ-loop link arm n start₀ i₀ start i = n - i
-
-live-links-requires : tie.Need-live-links-requires Inv-loop μ-loop
+live-links-requires : tie.Need-live-links-requires
 live-links-requires c κs = search needs
 
-fewer-requires : tie.Need-fewer-requires Inv-loop μ-loop
-fewer-requires c κs = search needs
+masks-of-requires : tie.Need-masks-of-requires
+masks-of-requires c κs = search needs
 
-loop-holds : tie.Need-loop-holds Inv-loop μ-loop
-loop-holds c = (omega arith, omega arith, start-none _)
+sub-start-in : tie.Need-sub-start-in
+sub-start-in c = search needs
 
-mul-l : tie.Need-mul-l Inv-loop μ-loop
-mul-l c = search needs
+part-start-in-start : tie.Need-part-start-in-start
+part-start-in-start c = search needs
 
-element-copy-out-l : tie.Need-element-copy-out-l Inv-loop μ-loop
-element-copy-out-l c = search needs
+part-start-in-end : tie.Need-part-start-in-end
+part-start-in-end c = search needs
 
-dofs-requires : tie.Need-dofs-requires Inv-loop μ-loop
-dofs-requires c κs = search needs
+start-in-requires : tie.Need-start-in-requires
+start-in-requires c κs = search needs
 
-add-start : tie.Need-add-start Inv-loop μ-loop
-add-start c = omega (arith, start-le (c .before .before .before .before .before .before .args .t1) (c .before .before .before .loop .i), dofs-small _ _ (c .dofs .ensures))
-
-add-i : tie.Need-add-i Inv-loop μ-loop
-add-i c = search needs
-
-loop-less : tie.Need-loop-less Inv-loop μ-loop
-loop-less c = search needs
-
-loop-again : tie.Need-loop-again Inv-loop μ-loop
-loop-again c =
-    let a = c .before .before .before .before .before .before .args .t1 in
-    let k = c .before .before .before .loop in
-    (omega arith, omega arith, start-more a (links-length a (c .before .before .before .before .before .before .good .0)) (k .i) (k .start) (c .dofs .result) _ (omega arith) (k .inv .2) (c .dofs .ensures))
-
-returns : tie.Need-returns Inv-loop μ-loop
+returns : tie.Need-returns
+unfolding startAt
 returns c =
-    let a = c .before .before .before .before .args .t1 in
-    c .before .loop .inv .2 ∙ start-end a (links-length a (c .before .before .before .before .good .0)) (c .before .before .before .before .args .link) (c .before .loop .i) (omega arith)
+    let a = c .before .before .before .before .before .args .arm in
+    c .start-in .ensures ∙ ap (λ (ms : List ℕ). startOf ms (c .before .before .before .before .before .args .link)) (front _ _ (c .before .before .before .before .live-links .ensures) (c .before .before .before .masks-of .ensures) ∙ masks-front a (links-length a (c .before .before .before .before .before .good .0)))
 
 pub start-of-spec : {M : Type 1} → statement M
-start-of-spec =
-    tie.close
-    (tie.spec
-    Inv-loop
-    μ-loop
-    live-links-requires
-    fewer-requires
-    loop-holds
-    mul-l
-    element-copy-out-l
-    dofs-requires
-    add-start
-    add-i
-    loop-less
-    loop-again
-    returns)
+start-of-spec = tie.close (tie.spec live-links-requires masks-of-requires sub-start-in part-start-in-start part-start-in-end start-in-requires returns)
