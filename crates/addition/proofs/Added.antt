@@ -108,7 +108,7 @@ module _ (a : Arm) (sized : length (a .links) ≡ linkLimit) (t : List Float) (n
   live : liveLinks a ≡ n
   live = omega (arith, k .room)
 
-  links-added : linksOf (addedInputs a new) ≡ linksOf a ++ (linkOf new ∷ [])
+  pub links-added : linksOf (addedInputs a new) ≡ linksOf a ++ (linkOf new ∷ [])
   unfolding linksOf addedInputs
   links-added =
       let m : min (n + 1) linkLimit ≡ suc n = omega (arith, k .room) in
@@ -156,7 +156,7 @@ module _ (a : Arm) (sized : length (a .links) ≡ linkLimit) (t : List Float) (n
   abbrev m : ℕ
   m = dofsOf (new .locked)
 
-  dofs-added : dofCountOf (addedInputs a new) ≡ dofCountOf a + dofsOf (new .locked)
+  pub dofs-added : dofCountOf (addedInputs a new) ≡ dofCountOf a + dofsOf (new .locked)
   unfolding dofCountOf masksOf linkOf
   dofs-added = ap totalOf (mapped lockedOf) ∙ total-snoc (masksOf a) (new .locked)
 

@@ -1,5 +1,5 @@
 pub mod Entries
 pub mod Tests
 mod Finite
-mod Added
+pub mod Added
 pub mod Addition

@@ -224,8 +224,8 @@ fn copy_parent(work: &mut [f32], tables: &[f32], p: usize, j: usize, fresh: bool
 
 // The links that a pass leaves, and whether every result that it worked out is finite.
 pub struct Refreshed {
-    pub fine: bool,
     pub links: [Link; LINKS],
+    pub fine: bool,
 }
 
 // Of the first n links those marked, rising, each from what is kept of its parent. Their blocks go into `work`.

@@ -1,3 +1,3 @@
 pub mod Sets
-mod Changed
+pub mod Changed
 pub mod Move

@@ -2,7 +2,8 @@
 // kept of its parent.
 ghost use mathlib.Core.Path.{_≡_};
 ghost use Rattle.masks.specs.Masks.{isFree};
-ghost use Rattle.arm.specs.Arm.{parentsOf};
+ghost use lib.ListN.{take};
+ghost use Rattle.arm.specs.Arm.{liveLinks, parentsOf};
 ghost use Rattle.topology.specs.Parents.{parentOf, marks};
 ghost use Rattle.working.specs.Outcome.{out};
 ghost use Rattle.one_link_move.specs.Change.{coordinateSet, changed, movedInputs};
@@ -13,7 +14,6 @@ use arm::Link;
 use arm::arm_refusal;
 use arm::live_links;
 use arm::mask_at;
-use arm::parents_of;
 use floats::finite;
 use limits::LINKS;
 use masks::is_axis;
@@ -94,7 +94,8 @@ fn parent_at(arm: Arm, link: usize) -> u8
     ensures { λ r. ⌜ r ≡ parentOf (parentsOf arm) link ⌝ }
 {
     if link < live_links(arm.link_count) {
-        let l = arm.links[link];
+        let links = arm.links;
+        let l = links[link];
         return l.parent;
     }
     0
@@ -187,12 +188,28 @@ fn with_moved(arm: Arm, link: usize, change: Change) -> Arm
 
 // ---- The move
 
+// The parents of the links that count.
+fn live_parents(arm: Arm) -> [u8; LINKS]
+    ensures { λ r. ⌜ take (liveLinks arm) r ≡ parentsOf arm ⌝ }
+{
+    let n = live_links(arm.link_count);
+    let links = arm.links;
+    let mut parents = [0u8; LINKS];
+    let mut i = 0;
+    while i < n {
+        let l = links[i];
+        parents[i] = l.parent;
+        i += 1;
+    }
+    parents
+}
+
 // The link and those below it.
 fn marks_of(arm: Arm, link: usize) -> [bool; LINKS]
     ensures { λ r. ⌜ r ≡ marks (parentsOf arm) link ⌝ }
 {
     let n = live_links(arm.link_count);
-    let parents = parents_of(arm);
+    let parents = live_parents(arm);
     at_or_below(&parents[0..n], link)
 }
 

@@ -45,7 +45,7 @@ zero-finite : isFinite zero32 ≡ true
 unfolding ofBits
 zero-finite = refl
 
-abbrev Kind : ℕ → Type 0
+abbrev pub Kind : ℕ → Type 0
 Kind locked = isRootMask locked ≡ true
 
 -- what holds of each of the four joints holds of the root's
@@ -59,7 +59,7 @@ by-type P locked p j a b c d = go (eqb (j .locked) locked) (eqb locked 0)
     go false true = c
     go false false = d
 
-kinds : (locked : ℕ) → Kind locked → (locked ≡ 7) ⊎ (locked ≡ 0)
+pub kinds : (locked : ℕ) → Kind locked → (locked ≡ 7) ⊎ (locked ≡ 0)
 kinds locked k = go (eqb locked 7) refl (eqb locked 0) refl k
   where
     go : (b : Bool) → eqb locked 7 ≡ b → (c : Bool) → eqb locked 0 ≡ c → (b || c) ≡ true → (locked ≡ 7) ⊎ (locked ≡ 0)
@@ -67,7 +67,7 @@ kinds locked k = go (eqb locked 7) refl (eqb locked 0) refl k
     go false e true f h = inr (eqb-true locked 0 f)
     go false e false f h = absurd (differ (sym h))
 
-root-locked : (locked : ℕ) (p : Pose) (j : Joint) → Kind locked → rootJoint locked p j .locked ≡ locked
+pub root-locked : (locked : ℕ) (p : Pose) (j : Joint) → Kind locked → rootJoint locked p j .locked ≡ locked
 unfolding rootJoint freePosSet withFrame1 freeJoint fixedJoint
 root-locked locked p j k = go (eqb (j .locked) locked) refl (eqb locked 0) refl
   where
@@ -116,11 +116,11 @@ module _ (locked : ℕ) (p : Pose) (j : Joint) where
 
 -- ---- a row
 
-fixed-dofs : dofsOf 7 ≡ 0
+pub fixed-dofs : dofsOf 7 ≡ 0
 unfolding dofsOf dofsBelow isFree bitOf
 fixed-dofs = refl
 
-free-dofs : dofsOf 0 ≡ 3
+pub free-dofs : dofsOf 0 ≡ 3
 unfolding dofsOf dofsBelow isFree bitOf
 free-dofs = refl
 

@@ -64,7 +64,7 @@ fn refusal_of(parents: &[u8], link: usize, enough: bool) -> u8
 }
 
 // How many links the branch of a link has.
-fn branch_length(parents: &[u8], link: usize) -> usize
+pub fn branch_length(parents: &[u8], link: usize) -> usize
     ensures { λ r. ⌜ r ≡ length (branch (now (parents .entry)) link) ⌝ }
 {
     if parents.len() <= link {

@@ -31,17 +31,17 @@ use Rattle.whole_step.specs.Step.{linkIntegrated, linkAfter, linksAfter,
 use Rattle.whole_step.specs.Promises.{StepSettles, StepKeeps}
 
 module _ (a : Arm) (sized : length (a .links) ≡ linkLimit) (dt : Float) where
-  abbrev vs : List Float
+  abbrev pub vs : List Float
   vs = velocitiesOf a
 
-  sized-after : length (linksAfter a vs dt) ≡ linkLimit
+  pub sized-after : length (linksAfter a vs dt) ≡ linkLimit
   unfolding linksAfter
   sized-after =
       let n = liveLinks a in
       omega (arith, length-append (each n (linkAfter a vs dt)) (drop n (a .links)), length-each (linkAfter a vs dt) n, length-drop n (a .links))
 
   -- a link that counts is integrated
-  link-at : (j : ℕ) → j < liveLinks a → linkAt (linksAfter a vs dt) j ≡ linkAfter a vs dt j
+  pub link-at : (j : ℕ) → j < liveLinks a → linkAt (linksAfter a vs dt) j ≡ linkAfter a vs dt j
   unfolding linksAfter
   link-at j h =
       let n = liveLinks a in
@@ -52,7 +52,7 @@ module _ (a : Arm) (sized : length (a .links) ≡ linkLimit) (dt : Float) where
   unfolding linksAfter each
   none e = rw e
 
-  stands : (j : ℕ) → j < liveLinks a → standing (linkAt (linksAfter a vs dt) j) ≡ standing (linkAt (a .links) j)
+  pub stands : (j : ℕ) → j < liveLinks a → standing (linkAt (linksAfter a vs dt) j) ≡ standing (linkAt (a .links) j)
   unfolding linkAfter linkIntegrated integrated
   stands j h = ap standing (link-at j h)
 

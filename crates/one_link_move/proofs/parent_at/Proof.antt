@@ -12,15 +12,15 @@ live-links-requires c κs = search needs
 mul-l : tie.Need-mul-l
 mul-l c = search needs
 
-element-copy-out-l : tie.Need-element-copy-out-l
-element-copy-out-l c = search needs
+array-copy-out-l : tie.Need-array-copy-out-l
+array-copy-out-l c = search needs
 
 returns : tie.Need-returns
-returns c = let a = c .before .before .before .args .t1 in parent-there a (links-length a (c .before .before .before .good .0)) (c .before .before .before .args .link) _ (omega arith)
+returns c = let a = c .before .before .before .before .args .arm in parent-there a (links-length a (c .before .before .before .before .good .0)) (c .before .before .before .before .args .link) _ (omega arith)
 
 returns-2 : tie.Need-returns-2
-returns-2 c = let a = c .before .before .args .t1 in parent-past a (links-length a (c .before .before .good .0)) (c .before .before .args .link) (omega arith)
+returns-2 c = let a = c .before .before .args .arm in parent-past a (links-length a (c .before .before .good .0)) (c .before .before .args .link) (omega arith)
 
 pub parent-at-spec : {M : Type 1} → statement M
 parent-at-spec =
-    tie.close (tie.spec live-links-requires mul-l element-copy-out-l returns returns-2)
+    tie.close (tie.spec live-links-requires mul-l array-copy-out-l returns returns-2)
