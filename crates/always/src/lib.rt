@@ -1,0 +1,1 @@
+// Demand 3 over any sequence of calls: specs/Promise.antt, proofs/Always.antt. No code.
