@@ -1,0 +1,369 @@
+/* The exported functions of Giellavor, for C on x86-64. Link target/staticlib/libplugin.a, libexports.a and libexports_views.a
+ * (`rt staticlib NAME`).
+ *
+ * A slice is a pointer and a count. Any value of any argument gets an answer; all that is asked of a caller is that a pointer points to as
+ * many items as its count says. A refusal has a number from 1 to 12, and then nothing that was lent has changed: of an answer it is the field
+ * `refusal`, 0 for none; a function that returns an `int32_t` gives it below zero, and a count otherwise. */
+#ifndef GIELLAVOR_H
+#define GIELLAVOR_H
+
+#include <stddef.h>
+#include <stdint.h>
+
+#ifdef __cplusplus
+extern "C" {
+#endif
+
+/* ---- How large an arm may be */
+
+#define GIELLAVOR_LINKS 16
+#define GIELLAVOR_COUPLINGS 8
+#define GIELLAVOR_DOFS 48
+#define GIELLAVOR_BLOCK 144
+#define GIELLAVOR_TABLES 2304
+
+/* ---- The plane */
+
+/* Cosine and sine of an angle. */
+typedef struct GiellavorRotation {
+    float re;
+    float im;
+} GiellavorRotation;
+
+/* A point of the plane, or a shift. */
+typedef struct GiellavorPoint {
+    float x;
+    float y;
+} GiellavorPoint;
+
+/* A rotation and a translation. */
+typedef struct GiellavorPose {
+    float re;
+    float im;
+    float x;
+    float y;
+} GiellavorPose;
+
+/* ---- An arm */
+
+/* A joint between a link and its parent: which axes are free, where its frames stand, and where it is along its axes. Bit 0 of a mask is X, bit 1
+ * is Y, bit 2 the angle. */
+typedef struct GiellavorJoint {
+    uint8_t locked;
+    uint8_t limit;
+    uint8_t motor;
+    GiellavorPose frame1;
+    GiellavorPose frame2;
+    float coordinates[3];
+    GiellavorRotation rotation;
+    float stiffness[3];
+    float rest[3];
+} GiellavorJoint;
+
+/* The spring of an axis. */
+typedef struct GiellavorSpring {
+    float stiffness;
+    float rest;
+} GiellavorSpring;
+
+/* A link, and what is kept of it: its world pose and its shifts. */
+typedef struct GiellavorLink {
+    uint32_t tag;
+    uint8_t parent;
+    GiellavorJoint joint;
+    GiellavorPoint centre;
+    GiellavorPose world;
+    GiellavorPoint shift02;
+    GiellavorPoint shift23;
+} GiellavorLink;
+
+/* Two axes of two links, tied by a coefficient and an offset. */
+typedef struct GiellavorCoupling {
+    uint8_t link1;
+    uint8_t axis1;
+    uint8_t link2;
+    uint8_t axis2;
+    float coefficient;
+    float offset;
+} GiellavorCoupling;
+
+/* A row over the degrees of freedom. */
+typedef struct GiellavorRow {
+    float entries[GIELLAVOR_DOFS];
+} GiellavorRow;
+
+/* An arm: lists count up to their counts. */
+typedef struct GiellavorArm {
+    size_t link_count;
+    size_t coupling_count;
+    GiellavorLink links[GIELLAVOR_LINKS];
+    GiellavorCoupling couplings[GIELLAVOR_COUPLINGS];
+    GiellavorRow rows[5];
+} GiellavorArm;
+
+/* ---- What is given */
+
+/* What is given of a new link. Its coordinates and springs start as zeros. Numbers are any: none is cut. */
+typedef struct GiellavorNewLink {
+    uint32_t tag;
+    uint32_t parent;
+    uint32_t locked;
+    uint32_t limit;
+    uint32_t motor;
+    GiellavorPose frame1;
+    GiellavorPose frame2;
+    GiellavorPoint centre;
+} GiellavorNewLink;
+
+/* A coupling as it is given: two links with an axis each, of any numbers. */
+typedef struct GiellavorNewCoupling {
+    uint32_t link1;
+    uint32_t axis1;
+    uint32_t link2;
+    uint32_t axis2;
+    float coefficient;
+    float offset;
+} GiellavorNewCoupling;
+
+/* What is given of a limit. */
+typedef struct GiellavorLimits {
+    float position;
+    float min;
+    float max;
+    float dt;
+    float erp_inv_dt;
+    float cfm_coeff;
+} GiellavorLimits;
+
+/* A force and a torque on a link. */
+typedef struct GiellavorForce {
+    float x;
+    float y;
+    float torque;
+} GiellavorForce;
+
+/* ---- Answers: a refusal or 0, then what is asked for; zeros where refused */
+
+/* The new arm, or the arm as it came. */
+typedef struct GiellavorEdited {
+    uint8_t refusal;
+    GiellavorArm arm;
+} GiellavorEdited;
+
+/* A rotation. */
+typedef struct GiellavorRotated {
+    uint8_t refusal;
+    GiellavorRotation rotation;
+} GiellavorRotated;
+
+/* A count of DoFs. */
+typedef struct GiellavorCount {
+    uint8_t refusal;
+    uint8_t count;
+} GiellavorCount;
+
+/* How much lent memory holds. */
+typedef struct GiellavorCounted {
+    uint8_t refusal;
+    size_t count;
+} GiellavorCounted;
+
+/* Where a link's own part of a lent row stands in it. */
+typedef struct GiellavorRowPart {
+    uint8_t refusal;
+    size_t offset;
+    size_t length;
+} GiellavorRowPart;
+
+/* A spring. */
+typedef struct GiellavorSpringAnswer {
+    uint8_t refusal;
+    GiellavorSpring spring;
+} GiellavorSpringAnswer;
+
+/* A value for each axis. */
+typedef struct GiellavorAxesAnswer {
+    uint8_t refusal;
+    float axes[3];
+} GiellavorAxesAnswer;
+
+/* A constraint row: between which bounds its impulse lies, its right side, and the gains of its DoF. */
+typedef struct GiellavorConstraintRow {
+    uint8_t refusal;
+    float lower;
+    float upper;
+    float rhs;
+    float cfm_gain;
+    float inv_lhs;
+} GiellavorConstraintRow;
+
+/* j·wj and j·velocities. */
+typedef struct GiellavorSums {
+    uint8_t refusal;
+    float j_wj;
+    float j_velocities;
+} GiellavorSums;
+
+/* ---- Splits and counts over bare lists */
+
+/* A link is deleted: part and new number of each old link, two bytes a link into `map`, 255 and 255 for the deleted one; returned is the part
+ * count. Refused: 1, 2, 4. */
+int32_t giellavor_split_delete(const uint8_t *parents, size_t parents_len, uint32_t link, uint8_t *map, size_t map_len);
+
+/* A link's joint is cut: part and new number of each link, two bytes a link into `map`; returned is the part count. Refused: 1, 2, 4. */
+int32_t giellavor_split_cut(const uint8_t *parents, size_t parents_len, uint32_t link, uint8_t *map, size_t map_len);
+
+/* The DoF count of a mask. Refused: 5. */
+int32_t giellavor_dof_count(uint32_t mask);
+
+/* The start of each mask of a list, a byte a mask into `starts`; returned is the total. Refused: 1, 2, 5. */
+int32_t giellavor_starts(const uint8_t *masks, size_t masks_len, uint8_t *starts, size_t starts_len);
+
+/* How many velocity constraints a joint makes. Refused: 5. */
+int32_t giellavor_num_velocity_constraints(uint32_t locked, uint32_t limit, uint32_t motor);
+
+/* The default damping of a mask, as f32 bits, lowest byte first, four bytes a DoF into `damping`; returned is the DoF count. Refused: 1, 5. */
+int32_t giellavor_default_damping(uint32_t mask, uint8_t *damping, size_t damping_len);
+
+/* ---- Numbers */
+
+/* The rotation of an angle. Refused: 7, 9. */
+GiellavorRotated giellavor_rotate(float angle);
+
+/* The solve of an n by n matrix, in rows, against a right side; the solution goes into the first n floats of `result`. Refused: 1, 2, 7, 11, 12. */
+uint8_t giellavor_solve(size_t n, const float *matrix, size_t matrix_len, const float *right, size_t right_len, float *result, size_t result_len);
+
+/* ---- Making an arm */
+
+/* An arm of no links; its tables hold +0. Refused: 1. */
+GiellavorEdited giellavor_empty(float *tables, size_t tables_len);
+
+/* A link is added behind the last. Refused: 1 to 5, 7 to 9, 12. */
+GiellavorEdited giellavor_add_link(GiellavorArm arm, float *tables, size_t tables_len, GiellavorNewLink link);
+
+/* A coupling is added behind the last. Refused: 2 to 5, 7, 9. */
+GiellavorEdited giellavor_add_coupling(GiellavorArm arm, GiellavorNewCoupling coupling);
+
+/* ---- Rows: one entry is set, named by link and axis. Refused: 2 to 7, 9. */
+
+GiellavorEdited giellavor_write_velocity(GiellavorArm arm, uint32_t link, uint32_t axis, float value);
+
+GiellavorEdited giellavor_write_damping(GiellavorArm arm, uint32_t link, uint32_t axis, float value);
+
+GiellavorEdited giellavor_write_armature(GiellavorArm arm, uint32_t link, uint32_t axis, float value);
+
+GiellavorEdited giellavor_write_friction(GiellavorArm arm, uint32_t link, uint32_t axis, float value);
+
+GiellavorEdited giellavor_write_acceleration(GiellavorArm arm, uint32_t link, uint32_t axis, float value);
+
+/* ---- Joints */
+
+/* The spring of an axis is set, locked or not. Refused: 2 to 5, 7, 9. */
+GiellavorEdited giellavor_set_spring(GiellavorArm arm, uint32_t link, uint32_t axis, GiellavorSpring spring);
+
+/* ---- Moves: one link's inputs are set, and it and the links below it are worked out */
+
+/* A free coordinate. Refused: 1 to 7, 9, 12. */
+GiellavorEdited giellavor_move_coordinate(GiellavorArm arm, float *tables, size_t tables_len, uint32_t link, uint32_t axis, float value);
+
+/* Both frames. Refused: 1 to 5, 7 to 9, 12. */
+GiellavorEdited giellavor_move_frames(GiellavorArm arm, float *tables, size_t tables_len, uint32_t link, GiellavorPose first, GiellavorPose second);
+
+/* The centre of mass. Refused: 1 to 5, 7, 9, 12. */
+GiellavorEdited giellavor_move_centre(GiellavorArm arm, float *tables, size_t tables_len, uint32_t link, GiellavorPoint centre);
+
+/* ---- The whole arm */
+
+/* Every link is worked out. Refused: 1 to 5, 7, 9, 12. */
+GiellavorEdited giellavor_full_working(GiellavorArm arm, float *tables, size_t tables_len);
+
+/* Every joint is integrated by dt, then every link is worked out. Refused: 1 to 5, 7, 9, 12. */
+GiellavorEdited giellavor_step(GiellavorArm arm, float *tables, size_t tables_len, float dt);
+
+/* The root is free at a pose. Refused: 1 to 5, 7 to 9, 12. */
+GiellavorEdited giellavor_free_root(GiellavorArm arm, float *tables, size_t tables_len, GiellavorPose pose);
+
+/* The root is fixed at a pose. Refused: as above. */
+GiellavorEdited giellavor_fix_root(GiellavorArm arm, float *tables, size_t tables_len, GiellavorPose pose);
+
+/* ---- Parts: each of a split's is an arm, worked out into tables of its own. Refused: 1 to 5, 7, 9, 12. */
+
+/* Part `number` after a link is deleted. */
+GiellavorEdited giellavor_part_delete(GiellavorArm arm, uint32_t link, uint32_t number, float *tables, size_t tables_len);
+
+/* Part `number` after a link's joint is cut. */
+GiellavorEdited giellavor_part_cut(GiellavorArm arm, uint32_t link, uint32_t number, float *tables, size_t tables_len);
+
+/* ---- Masks and bare lists */
+
+/* Is an axis of a mask free? The count is 1 or 0. Refused: 5. */
+GiellavorCount giellavor_free_axis(uint32_t mask, uint32_t axis);
+
+/* The DoFs of a mask below an axis. Refused: 5. */
+GiellavorCount giellavor_dof_count_below(uint32_t mask, uint32_t axis);
+
+/* The links from the root to a link of a list of parents, a byte each into `to`; returned is their count. Refused: 1, 2, 4. */
+GiellavorCounted giellavor_branch(const uint8_t *parents, size_t parents_len, uint32_t link, uint8_t *to, size_t to_len);
+
+/* ---- Counts */
+
+/* The start of a link. Refused: 2 to 5, 7, 9. */
+GiellavorCount giellavor_link_start(GiellavorArm arm, uint32_t link);
+
+/* The DoF count of an arm. Refused: 2 to 5, 7, 9. */
+GiellavorCount giellavor_arm_dofs(GiellavorArm arm);
+
+/* ---- Joints */
+
+/* The spring of an axis, locked or not. Refused: 2 to 5, 7, 9. */
+GiellavorSpringAnswer giellavor_spring(GiellavorArm arm, uint32_t link, uint32_t axis);
+
+/* The accelerations of a link's joint, put on their axes. Refused: 1 to 5, 7, 9. */
+GiellavorAxesAnswer giellavor_jacobian_mul_coordinates(GiellavorArm arm, uint32_t link, const float *accelerations, size_t accelerations_len);
+
+/* ---- The tree */
+
+/* The links from the root to a link, a byte each into `to`; returned is their count. Refused: 1 to 5, 7, 9. */
+GiellavorCounted giellavor_kinematic_branch(GiellavorArm arm, uint32_t link, uint8_t *to, size_t to_len);
+
+/* A link is deleted: part and new number of each link, two bytes a link into `map`, 255 and 255 for the deleted one; returned is the part count.
+ * Refused: 1 to 5, 7, 9. */
+GiellavorCounted giellavor_arm_split_delete(GiellavorArm arm, uint32_t link, uint8_t *map, size_t map_len);
+
+/* A link's joint is cut. The rest as above. */
+GiellavorCounted giellavor_arm_split_cut(GiellavorArm arm, uint32_t link, uint8_t *map, size_t map_len);
+
+/* ---- Rows */
+
+/* A link's own part of the velocities. No lent float is read. Refused: 1 to 5, 7, 9. */
+GiellavorRowPart giellavor_view_velocities(
+    GiellavorArm arm, uint32_t link, const float *velocities, size_t velocities_len, const float *accelerations,
+    size_t accelerations_len);
+
+/* A link's own part of the accelerations. The rest as above. */
+GiellavorRowPart giellavor_view_accelerations(
+    GiellavorArm arm, uint32_t link, const float *velocities, size_t velocities_len, const float *accelerations,
+    size_t accelerations_len);
+
+/* ---- Constraint rows: the first n floats of `j` and of `wj` are written, n being the DoF count */
+
+/* The row of an axis' limit. Refused: 1 to 7, 9 to 12. */
+GiellavorConstraintRow giellavor_limit_row(
+    GiellavorArm arm, uint32_t link, uint32_t axis, GiellavorLimits given, const float *mass, size_t mass_len, float *j, size_t j_len,
+    float *wj, size_t wj_len);
+
+/* The row of an axis' friction. Refused: as above. */
+GiellavorConstraintRow giellavor_friction_row(
+    GiellavorArm arm, uint32_t link, uint32_t axis, float dt, float cfm_coeff, const float *mass, size_t mass_len, float *j,
+    size_t j_len, float *wj, size_t wj_len);
+
+/* What a force on a link does along each DoF, its solve by the mass matrix, and their sums. Refused: 1 to 5, 7, 9, 11, 12. */
+GiellavorSums giellavor_fill_jacobians(
+    GiellavorArm arm, uint32_t link, GiellavorForce force, const float *tables, size_t tables_len, const float *mass, size_t mass_len,
+    float *j, size_t j_len, float *wj, size_t wj_len);
+
+#ifdef __cplusplus
+}
+#endif
+
+#endif
