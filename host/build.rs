@@ -5,7 +5,10 @@ use std::path::{Path, PathBuf};
 use std::process::{Command, exit};
 use std::time::SystemTime;
 
-const CRATES: [&str; 2] = ["plugin", "exports"];
+const CRATES: [&str; 3] = ["plugin", "exports", "exports_views"];
+
+/// What the tests of the layouts call, by the feature of that name.
+const LAYOUTS: &str = "layouts";
 
 fn main() {
     let host = PathBuf::from(std::env::var_os("CARGO_MANIFEST_DIR").unwrap_or_default());
@@ -17,6 +20,23 @@ fn main() {
     for name in CRATES {
         link(&root, &folder, name);
     }
+    if std::env::var_os("CARGO_FEATURE_LAYOUTS").is_some() {
+        link(&root, &folder, LAYOUTS);
+    }
+    readme(&root.join("README.md"));
+}
+
+/// The Rust blocks of the repository's README, for the doc tests.
+fn readme(file: &Path) {
+    println!("cargo::rerun-if-changed={}", file.display());
+    let text = fs::read_to_string(file).unwrap_or_default();
+    let blocks = text
+        .split("```rust\n")
+        .skip(1)
+        .filter_map(|rest| rest.split("```").next());
+    let blocks: String = blocks.map(|block| format!("```\n{block}```\n")).collect();
+    let made = PathBuf::from(std::env::var_os("OUT_DIR").unwrap_or_default()).join("readme.md");
+    fs::write(&made, blocks).unwrap_or_else(|why| stop(&format!("{} can't be written: {why}", made.display())));
 }
 
 fn link(root: &Path, folder: &Path, name: &str) {

@@ -2,11 +2,25 @@
 
 use crate::Refusal;
 use crate::ffi;
-use crate::refusal::told;
+use crate::refusal::{refused, told};
 
 /// The DoF count of a locked mask.
 pub fn dof_count(mask: u32) -> Result<usize, Refusal> {
     told(ffi::dof_count(mask))
+}
+
+/// The DoF count of a locked mask below an axis: where among the joint's own DoFs the axis' stands.
+pub fn dof_count_below(mask: u32, axis: u32) -> Result<usize, Refusal> {
+    let answer = ffi::dof_count_below(mask, axis);
+    refused(answer.refusal)?;
+    Ok(answer.count.into())
+}
+
+/// Is an axis of a locked mask free?
+pub fn is_free(mask: u32, axis: u32) -> Result<bool, Refusal> {
+    let answer = ffi::free_axis(mask, axis);
+    refused(answer.refusal)?;
+    Ok(answer.count == 1)
 }
 
 /// Writes the start of each mask of a list, a byte a mask; returned is the total of DoFs.
@@ -26,7 +40,5 @@ pub fn default_damping(mask: u32, damping: &mut [u8]) -> Result<usize, Refusal> 
 
 /// The floats of a row of bytes, as [`default_damping`] writes them.
 pub fn floats(bytes: &[u8]) -> impl Iterator<Item = f32> {
-    bytes
-        .chunks_exact(4)
-        .map(|b| f32::from_le_bytes([b[0], b[1], b[2], b[3]]))
+    bytes.as_chunks().0.iter().map(|&bytes| f32::from_le_bytes(bytes))
 }

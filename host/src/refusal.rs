@@ -93,9 +93,9 @@ mod tests {
     #[test]
     fn refusals_are_told_by_their_number() {
         for number in 1..=12 {
-            let refusal = told(-number).unwrap_err();
-            assert_eq!(i32::from(refusal.number()), number);
-            assert!(refusal.to_string().starts_with(&format!("refused with {number}: ")));
+            let told = told(-number).map_err(|refusal| (i32::from(refusal.number()), refusal.to_string()));
+            let text = format!("refused with {number}: ");
+            assert!(told.is_err_and(|(by, said)| by == number && said.starts_with(&text)));
         }
     }
 }

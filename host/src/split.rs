@@ -4,6 +4,13 @@ use crate::Refusal;
 use crate::ffi;
 use crate::refusal::told;
 
+/// How an arm is split, by the number of a link.
+#[derive(Clone, Copy, Debug, PartialEq, Eq, Hash)]
+pub enum Split {
+    Delete(u32),
+    Cut(u32),
+}
+
 /// Writes part and new number of each old link when a link is deleted, two bytes a link; returned is the part count.
 /// [`places`] reads the map.
 pub fn delete(parents: &[u8], link: u32, map: &mut [u8]) -> Result<usize, Refusal> {
@@ -24,8 +31,8 @@ pub struct Place {
 
 /// The place of each old link of a map; none for the deleted one.
 pub fn places(map: &[u8]) -> impl Iterator<Item = Option<Place>> {
-    map.chunks_exact(2).map(|link| match (link[0], link[1]) {
-        (255, 255) => None,
-        (part, number) => Some(Place { part, number }),
+    map.as_chunks().0.iter().map(|&link| match link {
+        [255, 255] => None,
+        [part, number] => Some(Place { part, number }),
     })
 }

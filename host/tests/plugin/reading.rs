@@ -1,6 +1,5 @@
 //! A plain reading of document 01: what each call answers, worked out the slow way. `Ok`: the count and what stands at the front of
 //! the lent memory; `Err`: the refusal's number, and the memory is as it was.
-#![allow(dead_code)]
 
 pub type Answer = Result<(usize, Vec<u8>), u8>;
 
@@ -76,6 +75,38 @@ pub fn split(parents: &[u8], split: Split, room: usize) -> Answer {
         }
     }
     Ok((heads.len(), map))
+}
+
+pub fn branch(parents: &[u8], link: u32, room: usize) -> Answer {
+    let n = parents.len();
+    let fits = (0..n).all(|link| !parent_is_bad(link, parents[link]));
+    let mut branch = vec![];
+    // A list that is too long, or no tree, is refused for that, and not for its branch's length.
+    let mut at = link as usize;
+    while at < n {
+        branch.insert(0, at as u8);
+        if at == 0 || parents[at] as usize >= at {
+            break;
+        }
+        at = parents[at] as usize;
+    }
+    refused(&[
+        (room < branch.len(), 1),
+        (n > 16, 2),
+        (link as usize >= n, 4),
+        (!fits, 4),
+    ])?;
+    Ok((branch.len(), branch))
+}
+
+pub fn free_axis(mask: u32, axis: u32) -> Answer {
+    refused(&[(mask > 7 || axis > 2, 5)])?;
+    Ok((is_free(mask, axis).into(), vec![]))
+}
+
+pub fn dof_count_below(mask: u32, axis: u32) -> Answer {
+    refused(&[(mask > 7 || axis > 2, 5)])?;
+    Ok(((0..axis).filter(|&below| is_free(mask, below)).count(), vec![]))
 }
 
 fn is_free(mask: u32, axis: u32) -> bool {

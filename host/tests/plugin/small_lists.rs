@@ -1,9 +1,7 @@
 //! Every list of up to 6 parents, each from 0 to 7, with every link from 0 to 7 deleted and cut, against the plain reading.
 
-mod reading;
-
+use crate::reading::{self, Split};
 use giellavor::split;
-use reading::Split;
 
 const UNTOUCHED: u8 = 0xA5;
 
@@ -48,6 +46,16 @@ fn every_mask() {
             told(giellavor::masks::dof_count(locked)),
             read(reading::dof_count(locked))
         );
+        for axis in [0, 1, 2, 3, 256] {
+            assert_eq!(
+                told(giellavor::masks::dof_count_below(locked, axis)),
+                read(reading::dof_count_below(locked, axis))
+            );
+            assert_eq!(
+                told(giellavor::masks::is_free(locked, axis).map(usize::from)),
+                read(reading::free_axis(locked, axis))
+            );
+        }
         for limit in 0..=8 {
             for motor in 0..=8 {
                 assert_eq!(

@@ -1,0 +1,12 @@
+//! A tree of links by its parents, one byte a link.
+
+use crate::Refusal;
+use crate::ffi;
+use crate::refusal::refused;
+
+/// Writes the links from the root to a link, a byte each; returned is their count.
+pub fn kinematic_branch(parents: &[u8], link: u32, branch: &mut [u8]) -> Result<usize, Refusal> {
+    let answer = ffi::branch(parents, link, branch);
+    refused(answer.refusal)?;
+    Ok(answer.count)
+}

@@ -1,0 +1,14 @@
+//! The arm from outside: over lent memory between guards, with any argument, and through the safe type.
+
+mod calls;
+mod memory;
+mod methods;
+mod outline;
+#[path = "../common/random.rs"]
+mod random;
+mod refusals;
+mod sequences;
+#[path = "../common/size.rs"]
+mod size;
+mod soak;
+mod wild;

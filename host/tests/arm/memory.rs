@@ -1,0 +1,121 @@
+//! Memory to lend, between guards; and arms by their bits.
+
+use giellavor::abi::{Arm, Coupling, Joint, Link, Point, Pose, Rotation};
+
+const GUARD: usize = 16;
+
+/// What lent memory holds.
+pub trait Item: Copy {
+    const GUARD: Self;
+    fn bits(self) -> u32;
+}
+
+impl Item for u8 {
+    const GUARD: u8 = 0xA5;
+    fn bits(self) -> u32 {
+        self.into()
+    }
+}
+
+impl Item for f32 {
+    const GUARD: f32 = f32::from_bits(0x7FC5_A5A5);
+    fn bits(self) -> u32 {
+        self.to_bits()
+    }
+}
+
+#[derive(Clone)]
+pub struct Memory<T>(Vec<T>);
+
+impl<T: Item> Memory<T> {
+    pub fn new(items: impl IntoIterator<Item = T>) -> Memory<T> {
+        let guard = [T::GUARD; GUARD];
+        Memory(guard.into_iter().chain(items).chain(guard).collect())
+    }
+
+    pub fn lent(&mut self) -> &mut [T] {
+        let end = self.0.len() - GUARD;
+        &mut self.0[GUARD..end]
+    }
+
+    /// Has nothing changed but the first n items? The guards count.
+    pub fn same_past(&self, before: &Memory<T>, n: usize) -> bool {
+        let same = |a: &[T], b: &[T]| a.iter().map(|x| x.bits()).eq(b.iter().map(|x| x.bits()));
+        let free = (GUARD + n).min(self.0.len() - GUARD);
+        self.0.len() == before.0.len()
+            && same(&self.0[..GUARD], &before.0[..GUARD])
+            && same(&self.0[free..], &before.0[free..])
+    }
+}
+
+// ---- An arm by its bits, counted or not
+
+/// The bits of every field of an arm.
+pub fn bits(arm: &Arm) -> Vec<u32> {
+    let mut bits = vec![arm.link_count as u32, (arm.link_count >> 32) as u32];
+    bits.extend([arm.coupling_count as u32, (arm.coupling_count >> 32) as u32]);
+    for link in &arm.links {
+        let Link {
+            tag,
+            parent,
+            joint,
+            centre,
+            world,
+            shift02,
+            shift23,
+        } = *link;
+        bits.extend([tag, parent.into()]);
+        joint_bits(joint, &mut bits);
+        bits.extend(floats_of(world).map(f32::to_bits));
+        bits.extend(
+            [centre, shift02, shift23]
+                .iter()
+                .flat_map(|p| [p.x, p.y])
+                .map(f32::to_bits),
+        );
+    }
+    for coupling in &arm.couplings {
+        let Coupling {
+            link1,
+            axis1,
+            link2,
+            axis2,
+            coefficient,
+            offset,
+        } = *coupling;
+        bits.extend([link1, axis1, link2, axis2].map(u32::from));
+        bits.extend([coefficient, offset].map(f32::to_bits));
+    }
+    bits.extend(arm.rows.iter().flat_map(|row| row.entries).map(f32::to_bits));
+    bits
+}
+
+fn joint_bits(joint: Joint, bits: &mut Vec<u32>) {
+    let Joint {
+        locked,
+        limit,
+        motor,
+        frame1,
+        frame2,
+        coordinates,
+        rotation,
+        stiffness,
+        rest,
+    } = joint;
+    let Rotation { re, im } = rotation;
+    bits.extend([locked, limit, motor].map(u32::from));
+    let floats = [floats_of(frame1), floats_of(frame2)].concat();
+    let floats = floats
+        .into_iter()
+        .chain(coordinates)
+        .chain([re, im])
+        .chain(stiffness)
+        .chain(rest);
+    bits.extend(floats.map(f32::to_bits));
+}
+
+fn floats_of(pose: Pose) -> [f32; 4] {
+    [pose.re, pose.im, pose.x, pose.y]
+}
+
+pub const ORIGIN: Point = Point { x: 0.0, y: 0.0 };

@@ -1,0 +1,7 @@
+//! The boundary to the proved functions: what is declared in Rust and in C is what the Rattle source has, and is laid out as the Rattle side lays it out.
+
+mod declarations;
+mod header;
+#[cfg(feature = "layouts")]
+mod layouts;
+mod source;
