@@ -105,7 +105,7 @@ pub fn float_of_bits(bits: u32) -> f32
 }
 
 // x and eight hexadecimal digits stand for the f32 of these bits: here the digits.
-fn pattern(word: &[u8]) -> FloatWord
+pub fn pattern(word: &[u8]) -> FloatWord
     ensures { λ r. ⌜ r ≡ patternOf (now (word .entry)) ⌝ }
 {
     if word.len() != 8 {

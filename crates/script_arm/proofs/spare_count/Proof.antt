@@ -1,0 +1,79 @@
+use Prim.Native.Nat.{_-_, _≤_}
+use mathlib.Core.Path.{_≡_}
+use lib.ListN.{length}
+use borrow.Author.Needs.{needs}
+use Rattle.script_arm.proofs.spare_count.Statement.{statement}
+use Rattle.script_arm.proofs.spare_count.Tie as tie
+use Rattle.script_arm.proofs.spare_count.Reads as reads
+use Rattle.script_arm.proofs.spare_count.Lts as lts
+use Rattle.script_arm.proofs.is_used.Reads as is-used-reads
+use Rattle.script_arm.proofs.one_if.Reads as one-if-reads
+use Rattle.script_write.proofs.bits_of.Reads as bits-of-reads
+
+abbrev Inv-loop : tie.InvT-loop
+Inv-loop tables links dofs count₀ i₀ count i = (count ≤ i) × (i ≤ length tables)
+
+abbrev μ-loop : tie.MeasureT-loop
+μ-loop tables links dofs count₀ i₀ count i = length tables - i
+
+-- src/lib.rt:281:5
+loop-holds : tie.Need-loop-holds Inv-loop μ-loop
+loop-holds c = search needs
+
+-- src/lib.rt:282:34
+mul-bits-of : tie.Need-mul-bits-of Inv-loop μ-loop
+mul-bits-of c = search needs
+
+-- src/lib.rt:282:34
+shared-slice-read-bits-of : tie.Need-shared-slice-read-bits-of Inv-loop μ-loop
+shared-slice-read-bits-of c = search needs
+
+-- src/lib.rt:282:26
+bits-of-requires : tie.Need-bits-of-requires Inv-loop μ-loop
+bits-of-requires c κs = search needs
+
+-- src/lib.rt:282:54
+is-used-requires : tie.Need-is-used-requires Inv-loop μ-loop
+is-used-requires c κs = search needs
+
+-- src/lib.rt:282:18
+one-if-requires : tie.Need-one-if-requires Inv-loop μ-loop
+one-if-requires c κs = search needs
+
+-- src/lib.rt:282:9
+add-count : tie.Need-add-count Inv-loop μ-loop
+add-count c = search needs
+
+-- src/lib.rt:283:9
+add-i : tie.Need-add-i Inv-loop μ-loop
+add-i c = search needs
+
+-- src/lib.rt:281:5
+loop-less : tie.Need-loop-less Inv-loop μ-loop
+loop-less c = search needs
+
+-- src/lib.rt:281:5
+loop-again : tie.Need-loop-again Inv-loop μ-loop
+loop-again c = search needs
+
+-- src/lib.rt:278:1
+returns : tie.Need-returns Inv-loop μ-loop
+returns c = search needs
+
+pub spare-count-spec : {M : Type 1} → statement M
+spare-count-spec =
+    tie.close
+    (tie.spec
+    Inv-loop
+    μ-loop
+    loop-holds
+    mul-bits-of
+    shared-slice-read-bits-of
+    bits-of-requires
+    is-used-requires
+    one-if-requires
+    add-count
+    add-i
+    loop-less
+    loop-again
+    returns)
