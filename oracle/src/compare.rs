@@ -133,6 +133,7 @@ impl Class {
             "jac" => Class::Jacobians,
             "solve" => Class::Solves,
             "jmul" => Class::Products,
+            "check" => Class::Tables,
             _ => Class::Numbering,
         }
     }
@@ -369,17 +370,21 @@ fn excluded(inside: bool, class: Class, words: &[&str], at: usize, facts: &Facts
     }
 }
 
-/// An answer of the crate with `-` for each value that isn't compared.
+/// An answer of the crate with `-` for each value that isn't compared, and behind each of the two sums the size of its terms.
 pub fn masked(answer: &str, inside: bool, facts: &Facts) -> String {
     let mut out = String::new();
     for line in answer.lines() {
         let words: Vec<&str> = line.split(' ').collect();
+        let mut sizes = facts.sizes.iter();
         let shown = classes(line).into_iter().enumerate().map(|(at, class)| {
-            let value = class.rule() != Rule::Exact && float(words[at]).is_some();
-            if value && excluded(inside, class, &words, at, facts).is_some() {
-                "-"
-            } else {
-                words[at]
+            if class.rule() == Rule::Exact || float(words[at]).is_none() {
+                return words[at].to_string();
+            }
+            let size = if class == Class::Sums { sizes.next() } else { None };
+            match (excluded(inside, class, &words, at, facts), size) {
+                (Some(_), _) => "-".to_string(),
+                (None, Some(size)) => format!("{}/{:08x}", words[at], size.to_bits()),
+                (None, None) => words[at].to_string(),
             }
         });
         out += &shown.collect::<Vec<_>>().join(" ");

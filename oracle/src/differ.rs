@@ -119,10 +119,19 @@ impl<'a> Answers<'a> {
 
 /// What a script says of its next command.
 #[derive(Clone, Copy, PartialEq)]
-enum Expected {
+pub enum Expected {
     Accepted,
     Refused(u8),
     Either,
+}
+
+impl Expected {
+    pub fn of_comment(line: &str) -> Option<Expected> {
+        match line.strip_prefix("# expect ")?.strip_prefix("refused ") {
+            Some(refusal) => Some(refusal.parse().map_or(Expected::Either, Expected::Refused)),
+            None => Some(Expected::Either),
+        }
+    }
 }
 
 pub fn compare_script(
@@ -145,14 +154,7 @@ pub fn compare_script(
                 (usual, inside) = (Expected::Accepted, family != Family::Outside);
                 expected = usual;
             }
-            let words: Vec<&str> = text.split(' ').collect();
-            match words[..] {
-                ["#", "expect", "any"] => expected = Expected::Either,
-                ["#", "expect", "refused", refusal] => {
-                    expected = refusal.parse().map_or(Expected::Either, Expected::Refused);
-                }
-                _ => {}
-            }
+            expected = Expected::of_comment(&text).unwrap_or(expected);
             continue;
         }
         let (status, ours) = answers.next();

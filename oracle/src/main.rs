@@ -8,6 +8,7 @@ mod report;
 mod rng;
 mod script;
 mod selftest;
+mod store;
 
 use generate::Family;
 use std::io::{Read, Write};
@@ -21,6 +22,7 @@ const USAGE: &str = "usage:
   oracle compare SCRIPT ANSWERS [--root-shifts-by-01]                  a program's answers with the crate's
   oracle differ --replay PATH --seed S --scripts N [--from K] [--family a|b|c|d] [--jobs J] [--save FOLDER]
                 [--root-shifts-by-01]                                  generated scripts through both
+  oracle store FOLDER [--check]                                        the list that crates/stored plays, written or compared
   oracle selftest                                                      that the comparer can fail";
 
 /// Where scripts that show a difference go.
@@ -71,6 +73,7 @@ fn main() -> ExitCode {
         "generate" => generate(&mut arguments),
         "compare" => compare(&mut arguments),
         "differ" => differ(&mut arguments),
+        "store" => store(&mut arguments),
         "selftest" => Some(selftest::run()),
         _ => None,
     };
@@ -160,6 +163,18 @@ fn differ(arguments: &mut Arguments) -> Option<bool> {
         options.seed
     );
     Some(concluded(&comparison))
+}
+
+fn store(arguments: &mut Arguments) -> Option<bool> {
+    let check = arguments.flag("--check");
+    let folder = PathBuf::from(arguments.plain()?);
+    arguments.all_read()?;
+    let files = store::files(include_str!("../scripts/marked-examples.txt"));
+    if check {
+        return Some(store::stands_in(&files, &folder));
+    }
+    store::write(&files, &folder);
+    Some(true)
 }
 
 fn concluded(comparison: &compare::Comparison) -> bool {

@@ -22,6 +22,7 @@ pub struct Facts {
     pub sizes: [f32; 2],
 }
 
+#[derive(Clone)]
 pub struct Session {
     arm: Arm,
     root_shifts_by_01: bool,

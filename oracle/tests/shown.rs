@@ -27,6 +27,16 @@ fn the_comparer_can_fail() {
     assert!(status.success());
 }
 
+#[test]
+fn the_stored_list_is_made_so() {
+    let status = Command::new(env!("CARGO_BIN_EXE_oracle"))
+        .args(["store", "--check"])
+        .arg(Path::new(env!("CARGO_MANIFEST_DIR")).join("../crates/stored"))
+        .status()
+        .unwrap();
+    assert!(status.success());
+}
+
 fn answers(script: &Path) -> String {
     let input = std::fs::File::open(script).unwrap();
     let output = Command::new(env!("CARGO_BIN_EXE_oracle"))
