@@ -1,0 +1,25 @@
+-- `rule_of`: test by test. Assumes nothing.
+use Rattle.answer_classes.specs.Classes.{ruleOf}
+use borrow.Author.Tests.{eq-eqb, le-ltb, lt-ltb, ne-eqb}
+use borrow.Author.Needs.{needs}
+use Rattle.answer_classes.proofs.rule_of.Statement.{statement}
+use Rattle.answer_classes.proofs.rule_of.Tie as tie
+
+returns : tie.Need-returns
+unfolding ruleOf
+returns c = rw (lt-ltb _ _ (c .if1 .taken))
+
+returns-2 : tie.Need-returns-2
+unfolding ruleOf
+returns-2 c = rw (le-ltb _ _ (c .before .if1 .left), eq-eqb _ _ (c .if2 .taken))
+
+returns-3 : tie.Need-returns-3
+unfolding ruleOf
+returns-3 c = rw (le-ltb _ _ (c .before .before .if1 .left), ne-eqb _ _ (c .before .if2 .left), eq-eqb _ _ (c .if3 .taken))
+
+returns-4 : tie.Need-returns-4
+unfolding ruleOf
+returns-4 c = rw (le-ltb _ _ (c .before .before .if1 .left), ne-eqb _ _ (c .before .if2 .left), ne-eqb _ _ (c .if3 .left))
+
+pub rule-of-spec : {M : Type 1} → statement M
+rule-of-spec = tie.close (tie.spec returns returns-2 returns-3 returns-4)
