@@ -1,0 +1,41 @@
+//! A plain Rust reading of document 01: a planar arm and every call on it, module by module in the order of that
+//! document, and the replay script over it.
+//!
+//! It shares no text with the proved library. It is what that library's `replay` is compared with, and what its
+//! times are measured against.
+#![forbid(unsafe_code)]
+
+pub mod floats;
+pub mod limits;
+pub mod refusal;
+
+pub mod masks;
+pub mod rotation;
+
+pub mod pose;
+
+pub mod joint;
+
+pub mod arm;
+pub mod tree;
+
+pub mod split;
+
+pub mod root;
+
+pub mod kinematics;
+pub mod moves;
+
+pub mod solve;
+
+pub mod rows;
+
+pub mod compare;
+pub mod script;
+pub mod wild;
+
+pub use arm::{Arm, Coupling, Link, RowName};
+pub use joint::Joint;
+pub use pose::{Point, Pose};
+pub use refusal::{Answer, Refusal};
+pub use rotation::Rotation;

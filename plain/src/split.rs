@@ -1,0 +1,143 @@
+//! Splits: a link goes, or its joint is cut, and the arm falls into parts.
+
+use crate::arm::{Arm, Link};
+use crate::joint::Joint;
+use crate::kinematics::{blocks_of, full_working};
+use crate::limits::{LINKS, TABLES};
+use crate::refusal::{Answer, Refusal::*};
+
+#[derive(Clone, Copy, Debug, PartialEq, Eq)]
+pub enum Split {
+    /// The link itself goes.
+    Delete,
+    /// Only its joint goes.
+    Cut,
+}
+
+/// Stands for the part and the number of a link that is gone.
+pub const GONE: u8 = 255;
+
+/// Where each link of an arm comes to.
+struct Parts {
+    count: usize,
+    /// A bit for each link that leads a part.
+    heads: u16,
+    part: [u8; LINKS],
+    number: [u8; LINKS],
+}
+
+impl Split {
+    fn is_head(self, i: usize, parent: usize, link: usize) -> bool {
+        match self {
+            Split::Delete => i != link && (i == 0 || parent == link),
+            Split::Cut => i == 0 || i == link,
+        }
+    }
+
+    /// How many parts there will be.
+    fn part_count(self, links: &[Link], link: usize) -> usize {
+        links
+            .iter()
+            .enumerate()
+            .filter(|&(i, l)| self.is_head(i, l.parent as usize, link))
+            .count()
+    }
+
+    /// Parts are counted by their heads, and a part's links by their order in the old arm.
+    fn parts(self, links: &[Link], link: usize) -> Parts {
+        let mut parts = Parts {
+            count: 0,
+            heads: 0,
+            part: [GONE; LINKS],
+            number: [GONE; LINKS],
+        };
+        let mut sizes = [0; LINKS];
+        for (i, l) in links.iter().enumerate() {
+            let parent = l.parent as usize;
+            if self.is_head(i, parent, link) {
+                parts.part[i] = parts.count as u8;
+                parts.count += 1;
+                parts.heads |= 1 << i;
+            } else if self == Split::Delete && i == link {
+                continue;
+            } else {
+                parts.part[i] = parts.part[parent];
+            }
+            let size = &mut sizes[parts.part[i] as usize];
+            parts.number[i] = *size;
+            *size += 1;
+        }
+        parts
+    }
+}
+
+impl Parts {
+    fn leads(&self, link: usize) -> bool {
+        self.heads >> link & 1 == 1
+    }
+}
+
+impl Arm {
+    /// Part and new number of each old link, into `map`; the answer is the part count.
+    pub fn split(&self, how: Split, link: u32, map: &mut [u8]) -> Answer<usize> {
+        let links = self.links();
+        self.tested(|rule| match rule {
+            Short => map.len() < 2 * links.len(),
+            Number => !self.has_link(link),
+            _ => false,
+        })?;
+        let parts = how.parts(links, link as usize);
+        for (pair, i) in map.chunks_exact_mut(2).zip(0..links.len()) {
+            pair.copy_from_slice(&[parts.part[i], parts.number[i]]);
+        }
+        Ok(parts.count)
+    }
+
+    /// One part as an arm of its own, its blocks worked into `tables`.
+    pub fn part(&self, how: Split, link: u32, part: u32, tables: &mut [f32]) -> Answer<Arm> {
+        self.tested(|rule| match rule {
+            Short => tables.len() < TABLES,
+            Number => !self.has_link(link) || part as usize >= how.part_count(self.links(), link as usize),
+            _ => false,
+        })?;
+        let parts = how.parts(self.links(), link as usize);
+        let mut arm = self.taken_apart(&parts, part as u8);
+        let kept = full_working(arm.link_count, |i| &arm.links[i], blocks_of(tables))?;
+        arm.keep(&kept);
+        Ok(arm)
+    }
+
+    /// The links, rows and couplings that go with a part. Heads are fixed where they are.
+    fn taken_apart(&self, parts: &Parts, part: u8) -> Arm {
+        let mut arm = Arm::EMPTY;
+        let (mut from, mut to) = (0, 0);
+        for (i, old) in self.links().iter().enumerate() {
+            let dofs = old.joint.dofs();
+            if parts.part[i] == part {
+                let link = &mut arm.links[arm.link_count];
+                *link = *old;
+                arm.link_count += 1;
+                if parts.leads(i) {
+                    link.parent = 0;
+                    link.joint = Joint::fixed(old.kept.pose);
+                } else {
+                    link.parent = parts.number[old.parent as usize];
+                    for (row, old_row) in arm.rows.iter_mut().zip(&self.rows) {
+                        row[to..to + dofs].copy_from_slice(&old_row[from..from + dofs]);
+                    }
+                    to += dofs;
+                }
+            }
+            from += dofs;
+        }
+        let goes = |link: u8| parts.part[link as usize] == part && !parts.leads(link as usize);
+        for &old in self.couplings().iter().filter(|c| goes(c.link1) && goes(c.link2)) {
+            let coupling = &mut arm.couplings[arm.coupling_count];
+            *coupling = old;
+            coupling.link1 = parts.number[old.link1 as usize];
+            coupling.link2 = parts.number[old.link2 as usize];
+            arm.coupling_count += 1;
+        }
+        arm
+    }
+}
