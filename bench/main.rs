@@ -1,10 +1,16 @@
-// Tests and times of the proved functions against plain Rust, in one process.
-mod row_write;
+//! Tests and times of the proved functions against plain Rust, in one process.
+
+mod arms;
+mod calls;
+mod ours;
+mod plain;
 mod solve;
+mod times;
+mod types;
 
 fn main() {
-    let agree = solve::test() & row_write::time();
-    let fast = solve::time();
+    let agree = solve::test() & calls::test();
+    let fast = calls::time() & solve::time();
     if !agree || !fast {
         std::process::exit(1);
     }

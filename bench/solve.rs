@@ -1,14 +1,7 @@
 // The solve against plain Rust: refusals and bits on random systems, and time.
+use crate::ours::solve as ours;
 use std::hint::black_box;
 use std::time::Instant;
-
-unsafe extern "C" {
-    fn giellavor_solve(n: usize, matrix: *const f32, matrix_len: usize, right: *const f32, right_len: usize, result: *mut f32, result_len: usize) -> u8;
-}
-
-fn ours(n: usize, matrix: &[f32], right: &[f32], result: &mut [f32]) -> u8 {
-    unsafe { giellavor_solve(n, matrix.as_ptr(), matrix.len(), right.as_ptr(), right.len(), result.as_mut_ptr(), result.len()) }
-}
 
 const DOFS: usize = 48;
 
@@ -160,7 +153,7 @@ fn work(n: usize, matrix: &[f32], right: &[f32], result: &mut [f32], rows: &mut 
 }
 
 #[inline(never)]
-fn plain(n: usize, matrix: &[f32], right: &[f32], result: &mut [f32]) -> u8 {
+pub fn plain(n: usize, matrix: &[f32], right: &[f32], result: &mut [f32]) -> u8 {
     let fits = if n <= DOFS { n * n <= matrix.len() } else { n <= matrix.len() / n };
     if !fits || right.len() < n || result.len() < n {
         return 1;

@@ -1,19 +1,12 @@
-// Calls on an arm as C functions, for bench/ alone.
+// What bench/ times and no export offers, as a C function.
 ghost use mathlib.Core.Path.{_≡_};
-ghost use Rattle.arm_edits.specs.Rows.{rowWritten};
-use arm::Arm;
-use arm::Edited;
-use arm::RowName;
+ghost use Rattle.planar.specs.Poses.{poseProduct};
+use planar::Pose;
 
-// One velocity of an arm, named by link and axis.
+// Pose b, then pose a.
 #[no_mangle]
-pub extern "C" fn giellavor_timed_write_velocity(
-    arm: Arm,
-    link: u32,
-    axis: u32,
-    value: f32,
-) -> Edited
-    ensures { λ r. ⌜ r ≡ rowWritten arm RowName.Velocities link axis value ⌝ }
+pub extern "C" fn giellavor_timed_product(a: Pose, b: Pose) -> Pose
+    ensures { λ r. ⌜ r ≡ poseProduct a b ⌝ }
 {
-    arm_edits::write_row(arm, RowName::Velocities, link, axis, value)
+    planar::product(a, b)
 }
