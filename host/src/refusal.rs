@@ -21,26 +21,40 @@ pub enum Refusal {
     ResultNotFinite = 12,
 }
 
+/// Each refusal, from number 1 on, and when it is given.
+const TABLE: [(Refusal, &str); 12] = [
+    (Refusal::ShortMemory, "lent memory is shorter than needed"),
+    (
+        Refusal::TooMany,
+        "a list is full, or what is handed in counts more than fits",
+    ),
+    (Refusal::TagTaken, "the tag is already in the arm"),
+    (
+        Refusal::NoSuchLink,
+        "no such link, or a parent that does not come before its link",
+    ),
+    (
+        Refusal::BadMask,
+        "a mask above 7, an axis above 2, or a root mask other than 7 or 0",
+    ),
+    (Refusal::AxisLocked, "the axis is locked"),
+    (Refusal::NotFinite, "a float that is given or read is not finite"),
+    (Refusal::NoRotation, "a given rotation is not of unit length"),
+    (Refusal::AngleTooFar, "an angle beyond 256 either way"),
+    (Refusal::BoundsReversed, "a pair of bounds the wrong way round"),
+    (Refusal::Singular, "the matrix is singular"),
+    (Refusal::ResultNotFinite, "a result is not finite"),
+];
+
 impl Refusal {
     pub fn number(self) -> u8 {
         self as u8
     }
 
-    fn reason(self) -> &'static str {
-        match self {
-            Refusal::ShortMemory => "lent memory is shorter than needed",
-            Refusal::TooMany => "a list is full, or what is handed in counts more than fits",
-            Refusal::TagTaken => "the tag is already in the arm",
-            Refusal::NoSuchLink => "no such link, or a parent that does not come before its link",
-            Refusal::BadMask => "a mask above 7, an axis above 2, or a root mask other than 7 or 0",
-            Refusal::AxisLocked => "the axis is locked",
-            Refusal::NotFinite => "a float that is given or read is not finite",
-            Refusal::NoRotation => "a given rotation is not of unit length",
-            Refusal::AngleTooFar => "an angle beyond 256 either way",
-            Refusal::BoundsReversed => "a pair of bounds the wrong way round",
-            Refusal::Singular => "the matrix is singular",
-            Refusal::ResultNotFinite => "a result is not finite",
-        }
+    /// When it is given.
+    pub fn reason(self) -> &'static str {
+        let row = TABLE.iter().find(|(refusal, _)| *refusal == self);
+        row.map_or("", |(_, reason)| reason)
     }
 }
 
@@ -54,21 +68,12 @@ impl Error for Refusal {}
 
 /// What a refusal's number says, where 0 is none. No function gives more than 12.
 pub(crate) fn refused(number: u8) -> Result<(), Refusal> {
-    Err(match number {
-        0 => return Ok(()),
-        1 => Refusal::ShortMemory,
-        2 => Refusal::TooMany,
-        3 => Refusal::TagTaken,
-        4 => Refusal::NoSuchLink,
-        5 => Refusal::BadMask,
-        6 => Refusal::AxisLocked,
-        7 => Refusal::NotFinite,
-        8 => Refusal::NoRotation,
-        9 => Refusal::AngleTooFar,
-        10 => Refusal::BoundsReversed,
-        11 => Refusal::Singular,
-        12.. => Refusal::ResultNotFinite,
-    })
+    match number.checked_sub(1) {
+        None => Ok(()),
+        Some(before) => Err(TABLE
+            .get(usize::from(before))
+            .map_or(Refusal::ResultNotFinite, |(refusal, _)| *refusal)),
+    }
 }
 
 /// What an exported function returned: a count, or a refusal's number below zero. None returns less than -12.
@@ -97,5 +102,15 @@ mod tests {
             let text = format!("refused with {number}: ");
             assert!(told.is_err_and(|(by, said)| by == number && said.starts_with(&text)));
         }
+    }
+
+    #[test]
+    fn the_readme_has_the_same_table() {
+        let readme = include_str!(concat!(env!("CARGO_MANIFEST_DIR"), "/../README.md"));
+        let (_, part) = readme.split_once("## Refusals\n").expect("a part on refusals");
+        let (part, _) = part.split_once("\n## ").expect("a part after it");
+        let rows = part.lines().filter(|line| line.starts_with('|')).skip(2);
+        let expected = TABLE.map(|(refusal, reason)| format!("| {} | {reason} |", refusal.number()));
+        assert_eq!(rows.collect::<Vec<_>>(), expected);
     }
 }

@@ -1,5 +1,7 @@
 //! The answers of `replay`, one for each command.
 
+use crate::refusal::{Refusal, refused};
+
 /// An answer: what its first line says, and the lines after it, in words.
 pub struct Answer {
     pub verdict: Verdict,
@@ -8,7 +10,7 @@ pub struct Answer {
 
 pub enum Verdict {
     Ok,
-    Refused(u8),
+    Refused(Refusal),
     Unreadable,
 }
 
@@ -16,7 +18,7 @@ fn verdict(line: &str) -> Option<Verdict> {
     match line.split_once(' ') {
         None if line == "ok" => Some(Verdict::Ok),
         None if line == "unreadable" => Some(Verdict::Unreadable),
-        Some(("refused", number)) => number.parse().ok().map(Verdict::Refused),
+        Some(("refused", number)) => refused(number.parse().ok()?).err().map(Verdict::Refused),
         _ => None,
     }
 }

@@ -5,6 +5,8 @@
 
 mod answer;
 mod arm;
+#[path = "../../host/src/refusal.rs"]
+#[allow(dead_code)] // What only the host's calls need.
 mod refusal;
 mod tell;
 

@@ -2,17 +2,12 @@
 
 use crate::answer::{Answer, Verdict, decimal, decimals};
 use crate::arm::Arm;
-use crate::refusal;
 
 /// An answer to a command, told with what it did to the arm.
 pub fn answer(command: &str, answer: &Answer, before: &Arm, after: &Arm) -> String {
     match answer.verdict {
         Verdict::Unreadable => format!("    unreadable; {}\n", left(before, after)),
-        Verdict::Refused(number) => format!(
-            "    refused {number}: {}; {}\n",
-            refusal::words(number),
-            left(before, after)
-        ),
+        Verdict::Refused(refusal) => format!("    {refusal}; {}\n", left(before, after)),
         Verdict::Ok => done(command, answer, before, after),
     }
 }
