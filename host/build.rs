@@ -7,8 +7,8 @@ use std::time::SystemTime;
 
 const CRATES: [&str; 3] = ["plugin", "exports", "exports_views"];
 
-/// What the tests of the layouts call, by the feature of that name.
-const LAYOUTS: &str = "layouts";
+/// What the tests of the layouts and `bench/` call, each by the feature of that name.
+const FEATURES: [(&str, &str); 2] = [("CARGO_FEATURE_LAYOUTS", "layouts"), ("CARGO_FEATURE_TIMED", "timed")];
 
 fn main() {
     let host = PathBuf::from(std::env::var_os("CARGO_MANIFEST_DIR").unwrap_or_default());
@@ -17,11 +17,9 @@ fn main() {
     println!("cargo::rerun-if-changed=build.rs");
     println!("cargo::rerun-if-changed={}", root.join("crates.txt").display());
     println!("cargo::rustc-link-search=native={}", folder.display());
-    for name in CRATES {
+    let asked = FEATURES.iter().filter(|(set, _)| std::env::var_os(set).is_some());
+    for name in CRATES.iter().chain(asked.map(|(_, name)| name)) {
         link(&root, &folder, name);
-    }
-    if std::env::var_os("CARGO_FEATURE_LAYOUTS").is_some() {
-        link(&root, &folder, LAYOUTS);
     }
     readme(&root.join("README.md"));
 }

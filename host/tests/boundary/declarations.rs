@@ -1,12 +1,16 @@
 //! What `src/ffi.rs`, `src/abi.rs` and `src/limits.rs` declare is what the Rattle source has, and no other file has `unsafe` code.
 
-use crate::source::{code, declared, declared_structs, exported, files, host, laid_out, limits};
+use crate::source::{code, declared, declared_structs, exported, exported_by, files, host, laid_out, limits};
 
 #[test]
 fn the_functions_are_those_of_the_source() {
-    let exported = exported();
-    assert!(!exported.is_empty());
-    assert_eq!(declared(), exported);
+    let [calls, timed] = declared();
+    assert!(!calls.is_empty());
+    assert_eq!(calls, exported());
+    let others = exported_by(&["layouts", "timed"]);
+    for (name, signature) in timed {
+        assert_eq!(Some(&signature), others.get(&name), "{name}");
+    }
 }
 
 #[test]

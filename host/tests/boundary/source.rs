@@ -88,12 +88,16 @@ fn as_words(name: &str, of: &str) -> Vec<String> {
 
 // ---- The Rattle source
 
+/// What the calls of the library export.
 pub fn exported() -> Functions {
+    exported_by(&EXPORTING)
+}
+
+pub fn exported_by(names: &[&str]) -> Functions {
     let mut found = Functions::new();
-    for file in EXPORTING
-        .map(|name| crates().join(name).join("src"))
+    for file in names
         .iter()
-        .flat_map(|at| files(at, ".rt"))
+        .flat_map(|name| files(&crates().join(name).join("src"), ".rt"))
     {
         for (before, text) in after(&code(&file), "pub extern \"C\" fn ") {
             let (name, parameters, result) = signature(text);
@@ -178,20 +182,24 @@ pub fn limits() -> BTreeMap<String, usize> {
 
 // ---- The Rust declarations
 
-pub fn declared() -> Functions {
+/// The lists of `exported!`: the calls, and what is timed beside them. An arm that crosses by value is lent there.
+pub fn declared() -> [Functions; 2] {
     let text = code(&host().join("src/ffi.rs"));
-    let (_, block) = text.split_once("unsafe extern \"C\" {").unwrap();
-    let (block, rest) = block.split_once('}').unwrap();
-    assert!(!rest.contains("extern \"C\""), "a second block");
-    let mut found = Functions::new();
-    for item in block.split(';').map(str::trim).filter(|item| !item.is_empty()) {
-        let (name, parameters, result) = signature(item.trim_start_matches("safe ").strip_prefix("fn ").unwrap());
-        let pointer = parameters.iter().any(|(_, of)| of.starts_with('*'));
-        assert!(!(pointer && item.starts_with("safe ")), "{name} takes a pointer");
-        let parameters = parameters.iter().map(|(name, of)| format!("{name}: {of}")).collect();
-        found.insert(name, Signature { parameters, result });
-    }
-    found
+    let lists = after(&text, "exported! {").map(|(_, list)| {
+        let (list, _) = list.split_once('}').unwrap();
+        let items = list.split(';').map(str::trim).filter(|item| !item.is_empty());
+        items.map(declared_function).collect()
+    });
+    lists.collect::<Vec<_>>().try_into().unwrap()
+}
+
+fn declared_function(item: &str) -> (String, Signature) {
+    let (name, parameters, result) = signature(item.strip_prefix("fn ").unwrap());
+    let parameters = parameters
+        .iter()
+        .flat_map(|(name, of)| as_words(name, if of == "&Arm" { "Arm" } else { of }))
+        .collect();
+    (format!("giellavor_{name}"), Signature { parameters, result })
 }
 
 pub fn declared_structs() -> Structs {
