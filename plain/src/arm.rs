@@ -198,7 +198,7 @@ impl Arm {
 
     /// Rule 4: parents come first, the root is its own, and couplings name links of the arm.
     fn misnumbers(&self) -> bool {
-        let misplaced = |(i, link): (usize, &Link)| link.parent as usize >= i.max(1);
+        let misplaced = |(i, link): (usize, &Link)| is_misplaced(i, link.parent);
         let misnames = |c: &Coupling| !self.has_link(c.link1.into()) || !self.has_link(c.link2.into());
         self.links().iter().enumerate().any(misplaced) || self.couplings().iter().any(misnames)
     }
@@ -230,6 +230,11 @@ impl Arm {
     fn is_wound(&self) -> bool {
         self.links().iter().any(|link| is_wound(link.joint.coords[ANGLE]))
     }
+}
+
+/// Whether a link's parent doesn't come before it; the root is its own.
+pub fn is_misplaced(link: usize, parent: u8) -> bool {
+    parent as usize >= link.max(1)
 }
 
 /// A root is fixed or free, nothing between.

@@ -1,6 +1,6 @@
 //! Splits: a link goes, or its joint is cut, and the arm falls into parts.
 
-use crate::arm::{Arm, Link};
+use crate::arm::{Arm, Link, is_misplaced};
 use crate::joint::Joint;
 use crate::kinematics::{blocks_of, full_working};
 use crate::limits::{LINKS, TABLES};
@@ -36,15 +36,14 @@ impl Split {
 
     /// How many parts there will be.
     fn part_count(self, links: &[Link], link: usize) -> usize {
-        links
-            .iter()
+        parents_of(links)
             .enumerate()
-            .filter(|&(i, l)| self.is_head(i, l.parent as usize, link))
+            .filter(|&(i, parent)| self.is_head(i, parent as usize, link))
             .count()
     }
 
     /// Parts are counted by their heads, and a part's links by their order in the old arm.
-    fn parts(self, links: &[Link], link: usize) -> Parts {
+    fn parts(self, parents: impl Iterator<Item = u8>, link: usize) -> Parts {
         let mut parts = Parts {
             count: 0,
             heads: 0,
@@ -52,8 +51,8 @@ impl Split {
             number: [GONE; LINKS],
         };
         let mut sizes = [0; LINKS];
-        for (i, l) in links.iter().enumerate() {
-            let parent = l.parent as usize;
+        for (i, parent) in parents.enumerate() {
+            let parent = parent as usize;
             if self.is_head(i, parent, link) {
                 parts.part[i] = parts.count as u8;
                 parts.count += 1;
@@ -72,13 +71,35 @@ impl Split {
 }
 
 impl Parts {
+    /// Part and new number of each of so many links.
+    fn write(&self, links: usize, map: &mut [u8]) {
+        for (pair, i) in map.chunks_exact_mut(2).zip(0..links) {
+            pair.copy_from_slice(&[self.part[i], self.number[i]]);
+        }
+    }
+
     fn leads(&self, link: usize) -> bool {
         self.heads >> link & 1 == 1
     }
 }
 
+fn parents_of(links: &[Link]) -> impl Iterator<Item = u8> {
+    links.iter().map(|link| link.parent)
+}
+
+/// Part and new number of each link of a bare list of parents, into `map`; the answer is the part count.
+pub fn split_map(parents: &[u8], how: Split, link: u32, map: &mut [u8]) -> Answer<usize> {
+    let misplaced = |(i, &parent): (usize, &u8)| is_misplaced(i, parent);
+    Short.when(map.len() < 2 * parents.len())?;
+    Full.when(parents.len() > LINKS)?;
+    Number.when(link as usize >= parents.len() || parents.iter().enumerate().any(misplaced))?;
+    let parts = how.parts(parents.iter().copied(), link as usize);
+    parts.write(parents.len(), map);
+    Ok(parts.count)
+}
+
 impl Arm {
-    /// Part and new number of each old link, into `map`; the answer is the part count.
+    /// The same for the arm's own links.
     pub fn split(&self, how: Split, link: u32, map: &mut [u8]) -> Answer<usize> {
         let links = self.links();
         self.tested(|rule| match rule {
@@ -86,10 +107,8 @@ impl Arm {
             Number => !self.has_link(link),
             _ => false,
         })?;
-        let parts = how.parts(links, link as usize);
-        for (pair, i) in map.chunks_exact_mut(2).zip(0..links.len()) {
-            pair.copy_from_slice(&[parts.part[i], parts.number[i]]);
-        }
+        let parts = how.parts(parents_of(links), link as usize);
+        parts.write(links.len(), map);
         Ok(parts.count)
     }
 
@@ -100,7 +119,7 @@ impl Arm {
             Number => !self.has_link(link) || part as usize >= how.part_count(self.links(), link as usize),
             _ => false,
         })?;
-        let parts = how.parts(self.links(), link as usize);
+        let parts = how.parts(parents_of(self.links()), link as usize);
         let mut arm = self.taken_apart(&parts, part as u8);
         let kept = full_working(arm.link_count, |i| &arm.links[i], blocks_of(tables))?;
         arm.keep(&kept);

@@ -1,0 +1,22 @@
+//! The proved functions beside plain Rust, in one process and on the same inputs: ns and their ratio, and that the results are the same, bit for bit.
+#![forbid(unsafe_code)]
+
+mod arms;
+mod boundary;
+mod calls;
+mod constraints;
+mod leaves;
+mod solves;
+mod table;
+mod text;
+mod times;
+
+fn main() {
+    let mut table = table::Table::new();
+    leaves::time(&mut table);
+    calls::time(&mut table);
+    constraints::time(&mut table);
+    solves::time(&mut table);
+    table.sum_up();
+    boundary::time();
+}
