@@ -3,7 +3,8 @@
 use crate::compare::{Class, Comparison, Exclusion, Place};
 use crate::generate::{self, Family};
 use crate::oracle::Session;
-use crate::script::{Command, Line, lines, read_line};
+use crate::script::lines;
+use plain::script::{Command, Line, read};
 use std::io::{Read, Write};
 use std::ops::Range;
 use std::path::PathBuf;
@@ -147,8 +148,8 @@ pub fn compare_script(
     let mut abandoned = false;
     for (number, line) in lines(text).enumerate() {
         let text = String::from_utf8_lossy(line);
-        let read = read_line(line);
-        if let Line::PassedOver = read {
+        let read = read(line);
+        if let Line::Nothing = read {
             if let Some(family) = Family::of_comment(&text) {
                 *comparison.scripts.entry(family.letter()).or_default() += 1;
                 (usual, inside) = (Expected::Accepted, family != Family::Outside);

@@ -7,9 +7,10 @@
 //!     accel DT                                T-02's accelerations
 //!     ik N (3·N floats) DAMPING (3) (N)       T-11: Jacobian in rows, movement, displacements
 //!     alone link .. | step DT | part ..       the crate's own call, with no kinematics after it
-use crate::oracle::write_row;
-use crate::script::{Answer, Command, Line, Words, read_line};
-use rapier::{Arm, Body, Link, Row};
+use crate::oracle::{cuts, link_of, write_row};
+use crate::script::Answer;
+use plain::script::{Command, Line, Words, float, read};
+use rapier::{Arm, Body, Row};
 
 /// The answer, if the line is such a command.
 pub fn answer(arm: &mut Arm, line: &[u8]) -> Option<String> {
@@ -41,7 +42,7 @@ pub fn answer(arm: &mut Arm, line: &[u8]) -> Option<String> {
             let columns = words.number()? as usize;
             let rows = (0..3 * columns).map(|_| words.float()).collect::<Option<Vec<f32>>>()?;
             let (damping, movement) = (words.float()?, words.floats()?);
-            let displacements = words.floats_left()?;
+            let displacements = words.rest(float)?;
             answer.line(
                 format_args!("ik"),
                 &rapier::inverse_kinematics(&rows, damping, movement, &displacements),
@@ -49,35 +50,21 @@ pub fn answer(arm: &mut Arm, line: &[u8]) -> Option<String> {
         }
         b"alone" => {
             let rest = line.strip_prefix(b"alone ")?;
-            alone(arm, read_line(rest))?;
+            alone(arm, read(rest))?;
             return Some(answer.0);
         }
         _ => return None,
     }
-    words.is_empty().then_some(answer.0)
+    words.end()?;
+    Some(answer.0)
 }
 
 fn alone(arm: &mut Arm, line: Line) -> Option<()> {
     match line {
-        Line::Command(Command::Link {
-            tag,
-            parent,
-            masks,
-            frames,
-            centre,
-        }) => {
-            let masks = masks.map(|mask| mask as u8);
-            arm.add_link_alone(&Link {
-                tag,
-                parent: parent as usize,
-                masks,
-                frames,
-                centre,
-            });
-        }
+        Line::Command(Command::Link(new)) => arm.add_link_alone(&link_of(&new)),
         Line::Command(Command::Step { dt }) => arm.integrate_alone(dt),
-        Line::Command(Command::Part { removal, part }) => {
-            arm.take_part_alone(removal.link as usize, removal.cut, part as usize);
+        Line::Command(Command::Part { how, link, part }) => {
+            arm.take_part_alone(link as usize, cuts(how), part as usize);
         }
         _ => return None,
     }

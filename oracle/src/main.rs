@@ -11,6 +11,7 @@ mod selftest;
 mod store;
 
 use generate::Family;
+use plain::script::{Line, read};
 use std::io::{Read, Write};
 use std::path::PathBuf;
 use std::process::ExitCode;
@@ -101,8 +102,8 @@ fn answer(arguments: &mut Arguments) -> Option<bool> {
     let mut inside = true;
     let mut output = std::io::BufWriter::new(std::io::stdout().lock());
     for line in script::lines(&input) {
-        let read = script::read_line(line);
-        if let script::Line::PassedOver = read {
+        let read = read(line);
+        if let Line::Nothing = read {
             let family = Family::of_comment(&String::from_utf8_lossy(line));
             inside = family.map_or(inside, |family| family != Family::Outside);
             continue;
@@ -110,7 +111,7 @@ fn answer(arguments: &mut Arguments) -> Option<bool> {
         let status = statuses.as_mut().map_or("ok", |statuses| statuses.status());
         let answer = match read {
             _ if status != "ok" => format!("{status}\n"),
-            script::Line::Command(command) if masked => {
+            Line::Command(command) if masked => {
                 let (answer, facts) = session.answer(&command);
                 compare::masked(&answer, inside, &facts)
             }

@@ -1,6 +1,11 @@
 //! The crate's answers to the replay script.
 use crate::later;
-use crate::script::{Answer, Command, End, Line, Poke, Removal, RowName, read_line};
+use crate::script::Answer;
+use plain::RowName;
+use plain::root::RootType;
+use plain::script::{Command, Line, Poke, read};
+use plain::split::Split;
+use plain::tree::{NewLink, Role};
 use rapier::{Arm, Coupling, Link, Row, RowConstraint, Softness};
 use std::panic::{AssertUnwindSafe, catch_unwind};
 
@@ -42,8 +47,8 @@ impl Session {
     /// A line's answer, as the script has it; `panic` and the words where the crate gives up, `unasked` where there is
     /// nothing to ask it.
     pub fn answer_line(&mut self, line: &[u8]) -> String {
-        match read_line(line) {
-            Line::PassedOver => String::new(),
+        match read(line) {
+            Line::Nothing => String::new(),
             Line::Command(command) => self.answer(&command).0,
             Line::Unreadable if self.later_commands => {
                 caught(|| later::answer(&mut self.arm, line).unwrap_or("unreadable\n".into()))
@@ -73,85 +78,73 @@ impl Session {
     /// Whether the command is one that the crate can be asked.
     fn ask(&mut self, command: &Command, answer: &mut Answer, sizes: &mut [f32; 2]) -> bool {
         let arm = &mut self.arm;
-        match command {
+        match *command {
             Command::New => *arm = Arm::new(self.root_shifts_by_01),
             Command::Empty => arm.emptied(),
             Command::Full => arm.full_working(),
-            Command::Link {
-                tag,
-                parent,
-                masks,
-                frames,
-                centre,
-            } => arm.add_link(&Link {
-                tag: *tag,
-                parent: *parent as usize,
-                masks: masks.map(mask),
-                frames: *frames,
-                centre: *centre,
-            }),
-            Command::Row { row, at, value } => {
-                let (link, axis) = place(at);
-                arm.set_row(row_of(*row), link, axis, *value);
+            Command::Link(ref new) => arm.add_link(&link_of(new)),
+            Command::Row { row, link, axis, value } => arm.set_row(row_of(row), link as usize, axis as usize, value),
+            Command::Coord { link, axis, value } => arm.move_coordinate(link as usize, axis as usize, value),
+            Command::Frames { link, frame1, frame2 } => {
+                arm.move_frames(link as usize, [frame1.floats(), frame2.floats()]);
             }
-            Command::Coord { at, value } => {
-                let (link, axis) = place(at);
-                arm.move_coordinate(link, axis, *value);
-            }
-            Command::Frames { link, frames } => arm.move_frames(*link as usize, *frames),
-            Command::Com { link, centre } => arm.move_centre(*link as usize, *centre),
-            Command::Spring { at, stiffness, rest } => {
-                let (link, axis) = place(at);
-                arm.set_spring(link, axis, *stiffness, *rest);
-            }
-            Command::SpringOf { at } => {
-                let (link, axis) = place(at);
-                let (stiffness, rest) = arm.spring(link, axis);
+            Command::Com { link, com } => arm.move_centre(link as usize, com.floats()),
+            Command::Spring {
+                link,
+                axis,
+                stiffness,
+                rest,
+            } => arm.set_spring(link as usize, axis as usize, stiffness, rest),
+            Command::SpringOf { link, axis } => {
+                let (stiffness, rest) = arm.spring(link as usize, axis as usize);
                 answer.line(format_args!("spring"), &[stiffness, rest]);
             }
             Command::Coupling {
-                ends,
-                coefficient,
+                links,
+                axes,
+                coeff,
                 offset,
             } => arm.add_coupling(&Coupling {
-                links: ends.map(|end| end.link as usize),
-                axes: ends.map(|end| end.axis as usize),
-                coefficient: *coefficient,
-                offset: *offset,
+                links: links.map(|link| link as usize),
+                axes: axes.map(|axis| axis as usize),
+                coefficient: coeff,
+                offset,
             }),
-            Command::Step { dt } => arm.step(*dt),
-            Command::Root { free, pose } => arm.change_root(*free, *pose),
+            Command::Step { dt } => arm.step(dt),
+            Command::Root { to, pose } => arm.change_root(to == RootType::Free, pose.floats()),
             Command::Branch { link } => {
                 answer.start(format_args!("branch"));
-                arm.branch(*link as usize).iter().for_each(|number| answer.word(number));
+                arm.branch(link as usize).iter().for_each(|number| answer.word(number));
                 answer.end();
             }
-            Command::View { accelerations, link } => {
-                answer.line(format_args!("view"), &arm.view(*accelerations, *link as usize));
+            Command::View { role, link } => {
+                let part = arm.view(role == Role::Accelerations, link as usize);
+                answer.line(format_args!("view"), &part);
             }
-            Command::Jmul { link, values } => {
-                answer.line(
-                    format_args!("jmul"),
-                    &arm.jacobian_mul_coordinates(*link as usize, values),
-                );
+            Command::Jmul {
+                link,
+                ref accelerations,
+            } => {
+                let on_axes = arm.jacobian_mul_coordinates(link as usize, accelerations);
+                answer.line(format_args!("jmul"), &on_axes);
             }
-            Command::Masks(masks) => {
-                let (dofs, constraints, damping) = rapier::masks(masks.map(mask));
+            Command::Masks { locked, limit, motor } => {
+                let (dofs, constraints, damping) = rapier::masks([locked, limit, motor].map(mask));
                 answer.line(
                     format_args!("masks dofs {dofs} constraints {constraints} damping"),
                     &damping,
                 );
             }
-            Command::Starts(masks) => {
+            Command::Starts { ref masks } => {
                 let (starts, total) = rapier::starts(&masks.iter().map(|bits| mask(*bits)).collect::<Vec<_>>());
                 answer.start(format_args!("starts"));
                 starts.iter().for_each(|start| answer.word(start));
                 answer.word(format_args!("total {total}"));
                 answer.end();
             }
-            Command::Rot { angle } => answer.line(format_args!("rot"), &rapier::rotation(*angle)),
-            Command::Split(Removal { cut, link }) => {
-                let (parts, map) = arm.split(*link as usize, *cut);
+            Command::Rot { angle } => answer.line(format_args!("rot"), &rapier::rotation(angle)),
+            Command::Split { how, link } => {
+                let (parts, map) = arm.split(link as usize, cuts(how));
                 answer.start(format_args!("split {parts}"));
                 for place in map {
                     let (part, number) = place.unwrap_or((255, 255));
@@ -159,38 +152,40 @@ impl Session {
                 }
                 answer.end();
             }
-            Command::Part { removal, part } => arm.take_part(removal.link as usize, removal.cut, *part as usize),
-            Command::Mass { values } => arm.set_mass(values.clone()),
+            Command::Part { how, link, part } => arm.take_part(link as usize, cuts(how), part as usize),
+            Command::Mass { ref matrix } => arm.set_mass(matrix.clone()),
             // What is lent decides refusals alone.
-            Command::Short(_) | Command::ShortRows(_) | Command::ShortOut(_) => {}
-            Command::Solve { right_sides } => answer.line(format_args!("solve"), &arm.solve(right_sides)),
-            Command::Limit {
-                at,
-                position,
-                limits,
+            Command::Short { .. } | Command::ShortRows { .. } | Command::ShortOut { .. } => {}
+            Command::Solve { ref right } => answer.line(format_args!("solve"), &arm.solve(right)),
+            Command::Limit { link, axis, limit } => {
+                let softness = Softness {
+                    dt: limit.dt,
+                    erp_inv_dt: limit.erp_inv_dt,
+                    cfm_coeff: limit.cfm_coeff,
+                };
+                let limits = [limit.min, limit.max];
+                let row = arm.limit(link as usize, axis as usize, limit.pos, limits, softness);
+                write_row(answer, "limit", &row);
+            }
+            Command::Friction {
+                link,
+                axis,
                 dt,
-                erp_inv_dt,
                 cfm_coeff,
             } => {
-                let (link, axis) = place(at);
                 let softness = Softness {
-                    dt: *dt,
-                    erp_inv_dt: *erp_inv_dt,
-                    cfm_coeff: *cfm_coeff,
-                };
-                write_row(answer, "limit", &arm.limit(link, axis, *position, *limits, softness));
-            }
-            Command::Friction { at, dt, cfm_coeff } => {
-                let (link, axis) = place(at);
-                let softness = Softness {
-                    dt: *dt,
+                    dt,
                     erp_inv_dt: 0.0,
-                    cfm_coeff: *cfm_coeff,
+                    cfm_coeff,
                 };
-                write_row(answer, "friction", &arm.friction(link, axis, softness));
+                write_row(
+                    answer,
+                    "friction",
+                    &arm.friction(link as usize, axis as usize, softness),
+                );
             }
             Command::Filljac { link, force, torque } => {
-                let filled = arm.fill_jacobians(*link as usize, *force, *torque);
+                let filled = arm.fill_jacobians(link as usize, force, torque);
                 answer.start(format_args!("filljac j"));
                 answer.floats(&filled.j);
                 answer.word("wj");
@@ -204,12 +199,9 @@ impl Session {
             Command::Kin => kin(arm, answer),
             // The crate keeps no lent tables.
             Command::Check => return false,
-            Command::Poke(Poke::Coordinate { at, to }) => {
-                let (link, axis) = place(at);
-                arm.poke_coordinate(link, axis, *to);
-            }
-            Command::Poke(Poke::Rotation { link, to }) => arm.poke_rotation(*link as usize, *to),
-            Command::Poke(Poke::Pose { link, to }) => arm.poke_pose(*link as usize, *to),
+            Command::Poke(Poke::Coordinate(link, axis, to)) => arm.poke_coordinate(link, axis, to),
+            Command::Poke(Poke::Rotation(link, to)) => arm.poke_rotation(link, to.floats()),
+            Command::Poke(Poke::Pose(link, to)) => arm.poke_pose(link, to.floats()),
             Command::Poke(_) => return false,
         }
         true
@@ -229,17 +221,28 @@ fn mask(bits: u32) -> u8 {
     u8::try_from(bits).expect("a mask above 255")
 }
 
-fn place(end: &End) -> (usize, usize) {
-    (end.link as usize, end.axis as usize)
+/// Whether only the joint goes.
+pub fn cuts(how: Split) -> bool {
+    how == Split::Cut
+}
+
+pub fn link_of(new: &NewLink) -> Link {
+    Link {
+        tag: new.tag,
+        parent: new.parent as usize,
+        masks: [new.locked, new.limit, new.motor].map(mask),
+        frames: [new.frame1.floats(), new.frame2.floats()],
+        centre: new.com.floats(),
+    }
 }
 
 fn row_of(row: RowName) -> Row {
     match row {
-        RowName::Vel => Row::Velocities,
-        RowName::Damp => Row::Damping,
-        RowName::Arm => Row::Armature,
-        RowName::Fric => Row::Frictions,
-        RowName::Acc => Row::Accelerations,
+        RowName::Velocities => Row::Velocities,
+        RowName::Damping => Row::Damping,
+        RowName::Armature => Row::Armature,
+        RowName::Frictions => Row::Frictions,
+        RowName::Accelerations => Row::Accelerations,
     }
 }
 

@@ -6,7 +6,8 @@ use crate::compare::{Class, Rule, classes, float, masked};
 use crate::differ::Expected;
 use crate::generate::{self, Family};
 use crate::oracle::Session;
-use crate::script::{Command, Line, lines, read_line};
+use crate::script::lines;
+use plain::script::{Command, Line, read};
 use std::collections::BTreeMap;
 use std::fmt::Write;
 use std::path::Path;
@@ -146,8 +147,8 @@ fn with_answers(script: &str, size: &Size) -> String {
     let (mut out, mut expected) = (String::new(), Expected::Accepted);
     for line in lines(script.as_bytes()) {
         let text = String::from_utf8_lossy(line);
-        match read_line(line) {
-            Line::PassedOver => match Expected::of_comment(&text) {
+        match read(line) {
+            Line::Nothing => match Expected::of_comment(&text) {
                 Some(said) => expected = said,
                 None => {
                     let family = Family::of_comment(&text);
@@ -186,8 +187,8 @@ struct Teller<'a> {
 impl Teller<'_> {
     /// The expected answer; none where the command is left out.
     fn answer(&mut self, text: &str, command: &Command, expected: Expected) -> Option<String> {
-        if let Command::Mass { values } = command {
-            self.mass = (text.len() <= self.size.command).then(|| values.clone());
+        if let Command::Mass { matrix } = command {
+            self.mass = (text.len() <= self.size.command).then(|| matrix.clone());
         }
         if needs_mass(command) && self.mass.is_none() || !self.is_due(command) {
             return None;

@@ -296,7 +296,7 @@ fn command_word(w: &mut Words) -> Option<Command> {
         },
         b"filljac" => Command::Filljac {
             link: w.number()?,
-            force: [w.float()?, w.float()?],
+            force: w.floats()?,
             torque: w.float()?,
         },
         b"dump" => Command::Dump,

@@ -5,9 +5,9 @@ mod session;
 mod words;
 mod writing;
 
-pub use command::{Command, Line, read};
+pub use command::{Command, Line, Poke, read};
 pub use session::{LENT, Session};
-pub use words::{MOST_DIGITS_AFTER_POINT, MOST_IN_DECIMAL, MOST_LINE};
+pub use words::{MOST_DIGITS_AFTER_POINT, MOST_IN_DECIMAL, MOST_LINE, Words, float};
 
 use std::io::{self, BufRead, Write};
 

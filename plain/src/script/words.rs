@@ -52,15 +52,20 @@ impl<'a> Words<'a> {
         float(self.word()?)
     }
 
+    pub fn floats<const N: usize>(&mut self) -> Option<[f32; N]> {
+        let mut floats = [0.0; N];
+        for x in &mut floats {
+            *x = self.float()?;
+        }
+        Some(floats)
+    }
+
     pub fn point(&mut self) -> Option<Point> {
-        Some(Point {
-            x: self.float()?,
-            y: self.float()?,
-        })
+        self.floats().map(|[x, y]| Point { x, y })
     }
 
     pub fn pose(&mut self) -> Option<Pose> {
-        Some(Pose::new(self.float()?, self.float()?, self.float()?, self.float()?))
+        self.floats().map(|[re, im, x, y]| Pose::new(re, im, x, y))
     }
 
     /// All words that are left, each read by `read`.
