@@ -2,9 +2,11 @@
 
 mod common;
 use common::last;
+use plain::Refusal;
+use plain::split::{Split, split_map};
 
 /// Links with these parents, the root fixed, the others free to turn.
-fn arm_of(parents: &[usize]) -> String {
+fn arm_of(parents: &[u8]) -> String {
     let link = |(i, parent)| {
         let mask = if i == 0 { 7 } else { 3 };
         format!("link {i} {parent} {mask} 0 0 1 0 0 0 1 0 0 0 0 0\n")
@@ -12,9 +14,10 @@ fn arm_of(parents: &[usize]) -> String {
     parents.iter().enumerate().map(link).collect()
 }
 
+const A: [u8; 6] = [0, 0, 1, 1, 0, 3];
+
 #[test]
 fn p1_to_p6_splits() {
-    const A: [usize; 6] = [0, 0, 1, 1, 0, 3];
     for (name, parents, split, expected) in [
         ("P1", &A[..], "delete 1", "split 3 0/0 255/255 1/0 2/0 0/1 2/1"),
         ("P2", &A, "cut 1", "split 2 0/0 1/0 1/1 1/2 0/1 1/3"),
@@ -28,7 +31,34 @@ fn p1_to_p6_splits() {
             format!("ok\n{expected}"),
             "{name}"
         );
+        assert_eq!(split_of(parents, split), expected, "{name}, over the bare list");
     }
+}
+
+/// A split of a bare list, in the script's words.
+fn split_of(parents: &[u8], split: &str) -> String {
+    let (how, link) = match split.split_once(' ') {
+        Some(("delete", link)) => (Split::Delete, link),
+        Some((_, link)) => (Split::Cut, link),
+        None => panic!("{split}"),
+    };
+    let mut map = [0; 32];
+    let parts = split_map(parents, how, link.parse().unwrap(), &mut map).unwrap();
+    let places = map.chunks(2).take(parents.len());
+    places.fold(format!("split {parts}"), |text, place| {
+        format!("{text} {}/{}", place[0], place[1])
+    })
+}
+
+#[test]
+fn a_split_of_a_bare_list_is_refused_by_the_lowest_number() {
+    let refused = |parents: &[u8], link, room| split_map(parents, Split::Cut, link, &mut [0; 40][..room]).err();
+    assert_eq!(refused(&A, 1, 12), None);
+    assert_eq!(refused(&A, 6, 12), Some(Refusal::Number));
+    assert_eq!(refused(&[0, 1], 0, 4), Some(Refusal::Number));
+    assert_eq!(refused(&[1], 0, 2), Some(Refusal::Number));
+    assert_eq!(refused(&[0; 17], 20, 34), Some(Refusal::Full));
+    assert_eq!(refused(&[0; 17], 20, 33), Some(Refusal::Short));
 }
 
 #[test]

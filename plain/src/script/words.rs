@@ -137,6 +137,7 @@ fn decimal(word: &[u8]) -> Option<f32> {
 #[cfg(test)]
 mod tests {
     use super::*;
+    use crate::wild::NO_FLOATS;
 
     #[test]
     fn decimals_are_rounded_once() {
@@ -194,40 +195,16 @@ mod tests {
 
     #[test]
     fn no_floats() {
-        for word in [
+        const MORE: [&str; 7] = [
             "",
-            "-",
-            "--1",
-            "+1",
-            ".5",
-            "5.",
-            "-.5",
-            "1.5.",
-            "1..5",
-            "1e5",
             "16777216",
             "3.0000000",
             "1677721.6",
             "0.00000000001",
             "99999999999999999999",
-            "-nan",
-            "NaN",
-            "Inf",
-            "infinity",
-            "MAX",
-            "x",
-            "x3f80000",
-            "x3f8000000",
-            "X3f800000",
-            "x3g800000",
-            "0x3f800000",
-            "-x3f800000",
-            "1\t",
-            "1\r",
-            "x+3f80000",
-            "x-3f80000",
             "٣",
-        ] {
+        ];
+        for word in NO_FLOATS.iter().chain(&MORE) {
             assert_eq!(float(word.as_bytes()), None, "{word}");
         }
     }

@@ -11,7 +11,8 @@ const UNREADABLE: usize = 13;
 #[derive(Clone, Debug, Default)]
 pub struct Coverage(BTreeMap<String, [u64; WAYS]>);
 
-const NAMES: [&str; 33] = [
+/// Every command of the script.
+pub const NAMES: [&str; 33] = [
     "new",
     "empty",
     "full",

@@ -10,6 +10,7 @@ mod rng;
 mod text;
 
 pub use coverage::Coverage;
+pub use floats::NO_FLOATS;
 
 use author::{Author, CALM, CARELESS, LARGE, Nature, STEADY, WILD};
 

@@ -1,6 +1,7 @@
 //! Lines at the borders of what can be read, and past them.
 
 use super::author::Author;
+use super::coverage::NAMES;
 use super::floats;
 use crate::script::MOST_LINE;
 
@@ -117,41 +118,9 @@ impl Author {
         self.rng.pick(&words).into()
     }
 
+    /// A command, or a word that might be taken for one.
     fn command_word(&mut self) -> Vec<u8> {
-        let words = [
-            "new",
-            "empty",
-            "full",
-            "link",
-            "row",
-            "coord",
-            "frames",
-            "com",
-            "spring",
-            "spring_of",
-            "coupling",
-            "step",
-            "root",
-            "branch",
-            "view",
-            "jmul",
-            "masks",
-            "starts",
-            "rot",
-            "split",
-            "part",
-            "mass",
-            "short",
-            "short_rows",
-            "short_out",
-            "solve",
-            "limit",
-            "friction",
-            "filljac",
-            "dump",
-            "kin",
-            "check",
-            "poke",
+        const OTHERS: [&str; 9] = [
             "links",
             "New",
             "short-out",
@@ -162,6 +131,7 @@ impl Author {
             "ok",
             "tick",
         ];
+        let words = [&NAMES[..], &OTHERS].concat();
         self.rng.pick(&words).into()
     }
 
