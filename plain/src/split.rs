@@ -22,8 +22,8 @@ struct Parts {
     count: usize,
     /// A bit for each link that leads a part.
     heads: u16,
-    part: [u8; LINKS],
-    number: [u8; LINKS],
+    /// The part and the new number of each link.
+    places: [[u8; 2]; LINKS],
 }
 
 impl Split {
@@ -47,23 +47,22 @@ impl Split {
         let mut parts = Parts {
             count: 0,
             heads: 0,
-            part: [GONE; LINKS],
-            number: [GONE; LINKS],
+            places: [[GONE; 2]; LINKS],
         };
         let mut sizes = [0; LINKS];
         for (i, parent) in parents.enumerate() {
             let parent = parent as usize;
-            if self.is_head(i, parent, link) {
-                parts.part[i] = parts.count as u8;
-                parts.count += 1;
+            let part = if self.is_head(i, parent, link) {
                 parts.heads |= 1 << i;
+                parts.count += 1;
+                parts.count as u8 - 1
             } else if self == Split::Delete && i == link {
                 continue;
             } else {
-                parts.part[i] = parts.part[parent];
-            }
-            let size = &mut sizes[parts.part[i] as usize];
-            parts.number[i] = *size;
+                parts.part(parent)
+            };
+            let size = &mut sizes[part as usize];
+            parts.places[i] = [part, *size];
             *size += 1;
         }
         parts
@@ -71,11 +70,17 @@ impl Split {
 }
 
 impl Parts {
-    /// Part and new number of each of so many links.
+    fn part(&self, link: usize) -> u8 {
+        self.places[link][0]
+    }
+
+    fn number(&self, link: u8) -> u8 {
+        self.places[link as usize][1]
+    }
+
+    /// The places of so many links.
     fn write(&self, links: usize, map: &mut [u8]) {
-        for (pair, i) in map.chunks_exact_mut(2).zip(0..links) {
-            pair.copy_from_slice(&[self.part[i], self.number[i]]);
-        }
+        map[..2 * links].copy_from_slice(self.places[..links].as_flattened());
     }
 
     fn leads(&self, link: usize) -> bool {
@@ -132,7 +137,7 @@ impl Arm {
         let (mut from, mut to) = (0, 0);
         for (i, old) in self.links().iter().enumerate() {
             let dofs = old.joint.dofs();
-            if parts.part[i] == part {
+            if parts.part(i) == part {
                 let link = &mut arm.links[arm.link_count];
                 *link = *old;
                 arm.link_count += 1;
@@ -140,7 +145,7 @@ impl Arm {
                     link.parent = 0;
                     link.joint = Joint::fixed(old.kept.pose);
                 } else {
-                    link.parent = parts.number[old.parent as usize];
+                    link.parent = parts.number(old.parent);
                     for (row, old_row) in arm.rows.iter_mut().zip(&self.rows) {
                         row[to..to + dofs].copy_from_slice(&old_row[from..from + dofs]);
                     }
@@ -149,12 +154,12 @@ impl Arm {
             }
             from += dofs;
         }
-        let goes = |link: u8| parts.part[link as usize] == part && !parts.leads(link as usize);
+        let goes = |link: u8| parts.part(link as usize) == part && !parts.leads(link as usize);
         for &old in self.couplings().iter().filter(|c| goes(c.link1) && goes(c.link2)) {
             let coupling = &mut arm.couplings[arm.coupling_count];
             *coupling = old;
-            coupling.link1 = parts.number[old.link1 as usize];
-            coupling.link2 = parts.number[old.link2 as usize];
+            coupling.link1 = parts.number(old.link1);
+            coupling.link2 = parts.number(old.link2);
             arm.coupling_count += 1;
         }
         arm
