@@ -10,7 +10,7 @@ use plain::{Answer, RowName, tree};
 use std::hint::black_box;
 
 /// A call on a chain, as each side has it.
-#[derive(Clone, Copy)]
+#[derive(Clone, Copy, Debug)]
 pub enum Call {
     WriteVelocity { link: u32 },
     AddLink { parent: u32 },
@@ -77,7 +77,7 @@ fn by_value(mut arm: plain::Arm, tables: &mut [f32], call: Call) -> (Answer, pla
 fn timed(call: Call, links: usize) -> Times {
     let made = chain(links).expect("a chain");
     let (arm, mut tables) = made.clone();
-    assert_eq!(call.ours(&arm, &mut tables.clone()).refusal, 0);
+    assert_eq!(call.ours(&arm, &mut tables.clone()).refusal, 0, "{call:?}");
     let mut after = arm;
     let (given, mut other_tables) = plain_of(&made);
     let mut other_after = given.clone();
@@ -91,7 +91,10 @@ fn timed(call: Call, links: usize) -> Times {
         },
     ]);
     let results = [plain_of(&(after, tables)), (other_after, other_tables), in_place];
-    assert!(results.iter().all(|result| told(result) == told(&results[0])));
+    assert!(
+        results.iter().all(|result| told(result) == told(&results[0])),
+        "{call:?} on {links} links"
+    );
     Times {
         ours,
         rust,
