@@ -5,10 +5,9 @@ use mathlib.Core.Path.{_≡_, refl, sym, _∙_}
 use mathlib.Core.Bool.{Bool, true, false, cond, not, _&&_}
 use mathlib.Core.List.{List, [], _∷_}
 use native.Mathlib.Omega.{arith}
-use borrow.Author.Tests.{eq-eqb, eqb-false, leb-true}
-use lib.Dec.{eqb, leb}
+use borrow.Author.Tests.{eqb-false, leb-true}
+use lib.Dec.{leb}
 use lib.ListN.{length}
-use Rattle.script_words.specs.Words.{sameBytes}
 use Rattle.script_words.proofs.Equal.{other-length}
 use Rattle.script_command.specs.Names.{text, is, named, kept, hasLength, isLonger}
 use Rattle.script_command.specs.declared.Command.{Command}
