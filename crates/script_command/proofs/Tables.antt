@@ -9,7 +9,7 @@ use borrow.Author.Tests.{eqb-false, leb-true}
 use lib.Dec.{leb}
 use lib.ListN.{length}
 use Rattle.script_words.proofs.Equal.{other-length}
-use Rattle.script_command.specs.Names.{text, is, named, kept, hasLength, isLonger}
+use Rattle.script_command.specs.Names.{text, is, named, kept, hasLength, hasOtherLength}
 use Rattle.script_command.specs.declared.Command.{Command}
 use Rattle.script_command.specs.declared.Command.the-variants.{Unknown}
 
@@ -66,7 +66,7 @@ pub no-short-name :
     → (length word ≡ 5 → ⊥)
     → (length word ≡ 6 → ⊥)
     → (name : String)
-    → isLonger name ≡ false
+    → hasOtherLength name ≡ false
     → is word name ≡ false
 no-short-name word a b c d name h =
     let w = within (length (text name)) h in

@@ -75,12 +75,12 @@ hasLength n name = eqb (length (text name)) n
 abbrev pub ofLength : ℕ → List (String × Command)
 ofLength n = kept (hasLength n) oneWord
 
--- the names of fewer than three bytes or more than six
-abbrev pub isLonger : String → Bool
-isLonger name = not (leb 3 (length (text name)) && leb (length (text name)) 6)
+-- the other names: of fewer than three bytes or more than six
+abbrev pub hasOtherLength : String → Bool
+hasOtherLength name = not (leb 3 (length (text name)) && leb (length (text name)) 6)
 
-abbrev pub longerNames : List (String × Command)
-longerNames = kept isLonger oneWord
+abbrev pub ofOtherLength : List (String × Command)
+ofOtherLength = kept hasOtherLength oneWord
 
 -- ---- names of two words: what the second may be
 

@@ -2,7 +2,7 @@
 ghost use mathlib.Core.Path.{_≡_};
 ghost use mathlib.Core.Bool.{cond};
 ghost use Rattle.script_words.specs.Words.{sameBytes};
-ghost use Rattle.script_command.specs.Names.{named, oneWord, ofLength, longerNames, rows, roots, views, splits, parts, numberPokes, pokes, secondWords};
+ghost use Rattle.script_command.specs.Names.{named, oneWord, ofLength, ofOtherLength, rows, roots, views, splits, parts, numberPokes, pokes, secondWords};
 ghost use Rattle.script_command.specs.Lines.{twoWordName, nameBy, nameOf};
 use script_words::Word;
 use script_words::next_word;
@@ -164,7 +164,7 @@ fn of_six(word: &[u8]) -> Command
 }
 
 fn of_more(word: &[u8]) -> Command
-    ensures { λ r. ⌜ r ≡ named longerNames (now (word .entry)) ⌝ }
+    ensures { λ r. ⌜ r ≡ named ofOtherLength (now (word .entry)) ⌝ }
 {
     let other = either(
         word,

@@ -78,14 +78,21 @@ fill read zero memory at = filling memory 0 at
 fill read (suc most) [] at = filling [] 0 at
 fill read (suc most) (x ∷ memory) at = fillWith (x ∷ memory) at (fill read most memory) (read at)
 
--- so many numbers, of at most five
+-- the places for a command's numbers and floats, before they are read
+abbrev pub numberPlaces : List ℕ
+numberPlaces = replicate 5 0
+
+abbrev pub floatPlaces : List Float
+floatPlaces = replicate 10 (ofBits binary32 0)
+
+-- so many numbers
 unfoldable pub numbersOf : List ℕ → ℕ → ℕ → Numbers
 numbersOf line count at =
-    let f = fill (numberAt line) count (replicate 5 0) at in
+    let f = fill (numberAt line) count numberPlaces at in
     record { read = eqb (f .count) count; values = f .holds; next = f .next }
 
--- so many floats, of at most ten
+-- so many floats
 unfoldable pub floatsOf : List ℕ → ℕ → ℕ → Floats
 floatsOf line count at =
-    let f = fill (floatAt line) count (replicate 10 (ofBits binary32 0)) at in
+    let f = fill (floatAt line) count floatPlaces at in
     record { read = eqb (f .count) count; values = f .holds; next = f .next }

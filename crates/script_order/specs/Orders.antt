@@ -2,8 +2,8 @@
 use Prim.Native.Nat.{ℕ}
 use mathlib.Core.Bool.{Bool, cond, _&&_}
 use mathlib.Core.List.{List}
-use lib.ListN.{length, replicate}
-use lib.Ieee.{Float, binary32, ofBits}
+use lib.ListN.{length}
+use lib.Ieee.{Float}
 use Rattle.script_words.specs.Words.{isLast}
 use Rattle.script_words.specs.declared.Line.{Line}
 use Rattle.script_words.specs.declared.Line.the-variants as line
@@ -11,7 +11,7 @@ use Rattle.script_command.specs.Lines.{nameOf}
 use Rattle.script_command.specs.declared.Command.{Command}
 use Rattle.script_command.specs.declared.Command.the-variants as command
 use Rattle.script_order.specs.Shapes.{shapeOf}
-use Rattle.script_order.specs.Arguments.{floatAt, maskAt, fill, numbersOf, floatsOf}
+use Rattle.script_order.specs.Arguments.{floatAt, maskAt, fill, numberPlaces, floatPlaces, numbersOf, floatsOf}
 use Rattle.script_order.specs.Fits.{fitsCommand}
 use Rattle.script_order.specs.declared.Filled.{Filled}
 use Rattle.script_order.specs.declared.Rest.{Rest}
@@ -44,7 +44,7 @@ restOf line Masks floats masks at =
 
 -- without arguments
 unfoldable pub bareOrder : Command → Order
-bareOrder c = record { command = c; numbers = replicate 5 0; floats = replicate 10 (ofBits binary32 0); count = 0 }
+bareOrder c = record { command = c; numbers = numberPlaces; floats = floatPlaces; count = 0 }
 
 -- with what was read, where nothing more stands in the line and the numbers fit; else the line is unreadable
 unfoldable pub orderWith : Bool → Command → List ℕ → List Float → ℕ → Order

@@ -384,7 +384,7 @@ fn bare(command: Command) -> Order
     }
 }
 
-// The order of a line that ends there, or not, where its numbers fit.
+// What was read, where it is the last of the line and the numbers fit; else the line is unreadable.
 fn order_with(last: bool, command: Command, numbers: Numbers, floats: Floats, count: usize) -> Order
     ensures { λ r. ⌜ r ≡ orderWith last command (numbers .values) (floats .values) count ⌝ }
 {

@@ -1,6 +1,6 @@
 -- `of_word`: only names of the word's length count. Assumes nothing.
 use Rattle.script_command.proofs.Tables.{named-kept, no-short-name, other-name}
-use Rattle.script_command.specs.Names.{hasLength, isLonger, oneWord}
+use Rattle.script_command.specs.Names.{hasLength, hasOtherLength, oneWord}
 use mathlib.Core.Path.{_∙_}
 use borrow.Author.Needs.{needs}
 use Rattle.script_command.proofs.of_word.Statement.{statement}
@@ -36,7 +36,7 @@ returns-4 c = c .of-six .ensures ∙ named-kept (c .before .before .before .args
 returns-5 : tie.Need-returns-5
 returns-5 c =
     let r = c .before .match .rest in
-    c .of-more .ensures ∙ named-kept (c .before .before .before .args .word .now) isLonger (no-short-name (c .before .before .before .args .word .now) (r .0 .0 .0 .1) (r .0 .0 .1) (r .0 .1) (r .1)) oneWord
+    c .of-more .ensures ∙ named-kept (c .before .before .before .args .word .now) hasOtherLength (no-short-name (c .before .before .before .args .word .now) (r .0 .0 .0 .1) (r .0 .0 .1) (r .0 .1) (r .1)) oneWord
 
 pub of-word-spec : {M : Type 1} → statement M
 of-word-spec =
