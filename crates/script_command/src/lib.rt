@@ -1,4 +1,9 @@
 // The commands of the replay script: what a line names, and its arguments.
+ghost use mathlib.Core.Path.{_≡_};
+ghost use mathlib.Core.Bool.{cond};
+ghost use Rattle.script_words.specs.Words.{sameBytes};
+ghost use Rattle.script_command.specs.Names.{named, oneWord, ofLength, ofOtherLength, rows, roots, views, splits, parts, numberPokes, pokes, secondWords};
+ghost use Rattle.script_command.specs.Lines.{twoWordName, nameBy, nameOf};
 use script_words::Word;
 use script_words::next_word;
 use script_words::part;
@@ -89,109 +94,105 @@ pub enum Command {
 
 // ---- Names
 
-fn of_three(word: &[u8]) -> Command {
-    if same(word, b"rot") {
-        return Command::Question(Question::Rotation);
-    }
-    if same(word, b"com") {
-        return Command::Edit(Edit::Centre);
-    }
-    if same(word, b"kin") {
-        return Command::Question(Question::Kin);
-    }
-    if same(word, b"new") {
-        return Command::Loan(Loan::New);
-    }
-    Command::Unknown
+// The command of a name, where a word is that name; else the other, which the names after it gave.
+fn either(word: &[u8], name: &[u8], command: Command, other: Command) -> Command
+    ensures { λ r. ⌜ r ≡ cond (sameBytes (now (word .entry)) (now (name .entry))) command other ⌝ }
+{
+    if same(word, name) { command } else { other }
 }
 
-fn of_four(word: &[u8]) -> Command {
-    if same(word, b"link") {
-        return Command::Edit(Edit::Link);
-    }
-    if same(word, b"step") {
-        return Command::Edit(Edit::Step);
-    }
-    if same(word, b"full") {
-        return Command::Edit(Edit::Full);
-    }
-    if same(word, b"jmul") {
-        return Command::Question(Question::Jmul);
-    }
-    if same(word, b"dump") {
-        return Command::Question(Question::Dump);
-    }
-    if same(word, b"mass") {
-        return Command::Loan(Loan::Mass);
-    }
-    Command::Unknown
+// By the length of the name.
+fn of_three(word: &[u8]) -> Command
+    ensures { λ r. ⌜ r ≡ named (ofLength 3) (now (word .entry)) ⌝ }
+{
+    let other = either(
+        word,
+        b"kin",
+        Command::Question(Question::Kin),
+        Command::Unknown,
+    );
+    let other = either(word, b"rot", Command::Question(Question::Rotation), other);
+    let other = either(word, b"com", Command::Edit(Edit::Centre), other);
+    either(word, b"new", Command::Loan(Loan::New), other)
 }
 
-fn of_five(word: &[u8]) -> Command {
-    if same(word, b"coord") {
-        return Command::Edit(Edit::Coordinate);
-    }
-    if same(word, b"empty") {
-        return Command::Edit(Edit::Empty);
-    }
-    if same(word, b"masks") {
-        return Command::Question(Question::Masks);
-    }
-    if same(word, b"solve") {
-        return Command::Question(Question::Solve);
-    }
-    if same(word, b"limit") {
-        return Command::Question(Question::Limit);
-    }
-    if same(word, b"check") {
-        return Command::Question(Question::Check);
-    }
-    if same(word, b"short") {
-        return Command::Loan(Loan::Short);
-    }
-    Command::Unknown
+fn of_four(word: &[u8]) -> Command
+    ensures { λ r. ⌜ r ≡ named (ofLength 4) (now (word .entry)) ⌝ }
+{
+    let other = either(
+        word,
+        b"dump",
+        Command::Question(Question::Dump),
+        Command::Unknown,
+    );
+    let other = either(word, b"mass", Command::Loan(Loan::Mass), other);
+    let other = either(word, b"jmul", Command::Question(Question::Jmul), other);
+    let other = either(word, b"step", Command::Edit(Edit::Step), other);
+    let other = either(word, b"link", Command::Edit(Edit::Link), other);
+    either(word, b"full", Command::Edit(Edit::Full), other)
 }
 
-fn of_six(word: &[u8]) -> Command {
-    if same(word, b"frames") {
-        return Command::Edit(Edit::Frames);
-    }
-    if same(word, b"spring") {
-        return Command::Edit(Edit::Spring);
-    }
-    if same(word, b"branch") {
-        return Command::Question(Question::Branch);
-    }
-    if same(word, b"starts") {
-        return Command::Question(Question::Starts);
-    }
-    Command::Unknown
+fn of_five(word: &[u8]) -> Command
+    ensures { λ r. ⌜ r ≡ named (ofLength 5) (now (word .entry)) ⌝ }
+{
+    let other = either(
+        word,
+        b"check",
+        Command::Question(Question::Check),
+        Command::Unknown,
+    );
+    let other = either(word, b"limit", Command::Question(Question::Limit), other);
+    let other = either(word, b"solve", Command::Question(Question::Solve), other);
+    let other = either(word, b"short", Command::Loan(Loan::Short), other);
+    let other = either(word, b"masks", Command::Question(Question::Masks), other);
+    let other = either(word, b"coord", Command::Edit(Edit::Coordinate), other);
+    either(word, b"empty", Command::Edit(Edit::Empty), other)
 }
 
-fn of_more(word: &[u8]) -> Command {
-    if same(word, b"filljac") {
-        return Command::Question(Question::Filljac);
-    }
-    if same(word, b"coupling") {
-        return Command::Edit(Edit::Coupling);
-    }
-    if same(word, b"friction") {
-        return Command::Question(Question::Friction);
-    }
-    if same(word, b"spring_of") {
-        return Command::Question(Question::Spring);
-    }
-    if same(word, b"short_out") {
-        return Command::Loan(Loan::ShortOut);
-    }
-    if same(word, b"short_rows") {
-        return Command::Loan(Loan::ShortRows);
-    }
-    Command::Unknown
+fn of_six(word: &[u8]) -> Command
+    ensures { λ r. ⌜ r ≡ named (ofLength 6) (now (word .entry)) ⌝ }
+{
+    let other = either(
+        word,
+        b"starts",
+        Command::Question(Question::Starts),
+        Command::Unknown,
+    );
+    let other = either(word, b"branch", Command::Question(Question::Branch), other);
+    let other = either(word, b"spring", Command::Edit(Edit::Spring), other);
+    either(word, b"frames", Command::Edit(Edit::Frames), other)
+}
+
+fn of_more(word: &[u8]) -> Command
+    ensures { λ r. ⌜ r ≡ named ofOtherLength (now (word .entry)) ⌝ }
+{
+    let other = either(
+        word,
+        b"filljac",
+        Command::Question(Question::Filljac),
+        Command::Unknown,
+    );
+    let other = either(
+        word,
+        b"friction",
+        Command::Question(Question::Friction),
+        other,
+    );
+    let other = either(word, b"short_out", Command::Loan(Loan::ShortOut), other);
+    let other = either(word, b"short_rows", Command::Loan(Loan::ShortRows), other);
+    let other = either(word, b"coupling", Command::Edit(Edit::Coupling), other);
+    either(
+        word,
+        b"spring_of",
+        Command::Question(Question::Spring),
+        other,
+    )
 }
 
 // The command that one word names.
-fn of_word(word: &[u8]) -> Command {
+fn of_word(word: &[u8]) -> Command
+    ensures { λ r. ⌜ r ≡ named oneWord (now (word .entry)) ⌝ }
+{
     match word.len() {
         3 => of_three(word),
         4 => of_four(word),
@@ -203,112 +204,101 @@ fn of_word(word: &[u8]) -> Command {
 
 // ---- Names of two words
 
-fn of_row(word: &[u8]) -> Command {
-    if same(word, b"vel") {
-        return Command::Edit(Edit::Velocity);
-    }
-    if same(word, b"damp") {
-        return Command::Edit(Edit::Damping);
-    }
-    if same(word, b"arm") {
-        return Command::Edit(Edit::Armature);
-    }
-    if same(word, b"fric") {
-        return Command::Edit(Edit::Friction);
-    }
-    if same(word, b"acc") {
-        return Command::Edit(Edit::Acceleration);
-    }
-    Command::Unknown
+fn of_row(word: &[u8]) -> Command
+    ensures { λ r. ⌜ r ≡ named rows (now (word .entry)) ⌝ }
+{
+    let other = either(
+        word,
+        b"acc",
+        Command::Edit(Edit::Acceleration),
+        Command::Unknown,
+    );
+    let other = either(word, b"fric", Command::Edit(Edit::Friction), other);
+    let other = either(word, b"arm", Command::Edit(Edit::Armature), other);
+    let other = either(word, b"damp", Command::Edit(Edit::Damping), other);
+    either(word, b"vel", Command::Edit(Edit::Velocity), other)
 }
 
-fn of_root(word: &[u8]) -> Command {
-    if same(word, b"free") {
-        return Command::Edit(Edit::RootFree);
-    }
-    if same(word, b"fixed") {
-        return Command::Edit(Edit::RootFixed);
-    }
-    Command::Unknown
+fn of_root(word: &[u8]) -> Command
+    ensures { λ r. ⌜ r ≡ named roots (now (word .entry)) ⌝ }
+{
+    let other = either(
+        word,
+        b"fixed",
+        Command::Edit(Edit::RootFixed),
+        Command::Unknown,
+    );
+    either(word, b"free", Command::Edit(Edit::RootFree), other)
 }
 
-fn of_view(word: &[u8]) -> Command {
-    if same(word, b"vel") {
-        return Command::Question(Question::Velocities);
-    }
-    if same(word, b"acc") {
-        return Command::Question(Question::Accelerations);
-    }
-    Command::Unknown
+fn of_view(word: &[u8]) -> Command
+    ensures { λ r. ⌜ r ≡ named views (now (word .entry)) ⌝ }
+{
+    let other = either(
+        word,
+        b"acc",
+        Command::Question(Question::Accelerations),
+        Command::Unknown,
+    );
+    either(word, b"vel", Command::Question(Question::Velocities), other)
 }
 
-fn of_split(word: &[u8]) -> Command {
-    if same(word, b"delete") {
-        return Command::Question(Question::SplitDelete);
-    }
-    if same(word, b"cut") {
-        return Command::Question(Question::SplitCut);
-    }
-    Command::Unknown
+fn of_split(word: &[u8]) -> Command
+    ensures { λ r. ⌜ r ≡ named splits (now (word .entry)) ⌝ }
+{
+    let other = either(
+        word,
+        b"cut",
+        Command::Question(Question::SplitCut),
+        Command::Unknown,
+    );
+    either(
+        word,
+        b"delete",
+        Command::Question(Question::SplitDelete),
+        other,
+    )
 }
 
-fn of_part(word: &[u8]) -> Command {
-    if same(word, b"delete") {
-        return Command::Edit(Edit::PartDelete);
-    }
-    if same(word, b"cut") {
-        return Command::Edit(Edit::PartCut);
-    }
-    Command::Unknown
+fn of_part(word: &[u8]) -> Command
+    ensures { λ r. ⌜ r ≡ named parts (now (word .entry)) ⌝ }
+{
+    let other = either(word, b"cut", Command::Edit(Edit::PartCut), Command::Unknown);
+    either(word, b"delete", Command::Edit(Edit::PartDelete), other)
 }
 
 // A number of the arm or of a link.
-fn of_poked_number(word: &[u8]) -> Command {
-    if same(word, b"links") {
-        return Command::Poke(Poke::Links);
-    }
-    if same(word, b"couplings") {
-        return Command::Poke(Poke::Couplings);
-    }
-    if same(word, b"tag") {
-        return Command::Poke(Poke::Tag);
-    }
-    if same(word, b"parent") {
-        return Command::Poke(Poke::Parent);
-    }
-    if same(word, b"locked") {
-        return Command::Poke(Poke::Locked);
-    }
-    if same(word, b"limit") {
-        return Command::Poke(Poke::Limit);
-    }
-    if same(word, b"motor") {
-        return Command::Poke(Poke::Motor);
-    }
-    Command::Unknown
+fn of_poked_number(word: &[u8]) -> Command
+    ensures { λ r. ⌜ r ≡ named numberPokes (now (word .entry)) ⌝ }
+{
+    let other = either(word, b"motor", Command::Poke(Poke::Motor), Command::Unknown);
+    let other = either(word, b"limit", Command::Poke(Poke::Limit), other);
+    let other = either(word, b"locked", Command::Poke(Poke::Locked), other);
+    let other = either(word, b"parent", Command::Poke(Poke::Parent), other);
+    let other = either(word, b"tag", Command::Poke(Poke::Tag), other);
+    let other = either(word, b"couplings", Command::Poke(Poke::Couplings), other);
+    either(word, b"links", Command::Poke(Poke::Links), other)
 }
 
-fn of_poke(word: &[u8]) -> Command {
-    if same(word, b"coordinate") {
-        return Command::Poke(Poke::Coordinate);
-    }
-    if same(word, b"rotation") {
-        return Command::Poke(Poke::Rotation);
-    }
-    if same(word, b"pose") {
-        return Command::Poke(Poke::Pose);
-    }
-    if same(word, b"coupling") {
-        return Command::Poke(Poke::Coupling);
-    }
-    if same(word, b"table") {
-        return Command::Poke(Poke::Table);
-    }
-    of_poked_number(word)
+fn of_poke(word: &[u8]) -> Command
+    ensures { λ r. ⌜ r ≡ named pokes (now (word .entry)) ⌝ }
+{
+    let other = either(
+        word,
+        b"table",
+        Command::Poke(Poke::Table),
+        of_poked_number(word),
+    );
+    let other = either(word, b"coupling", Command::Poke(Poke::Coupling), other);
+    let other = either(word, b"pose", Command::Poke(Poke::Pose), other);
+    let other = either(word, b"rotation", Command::Poke(Poke::Rotation), other);
+    either(word, b"coordinate", Command::Poke(Poke::Coordinate), other)
 }
 
 // The command that a word and the one after it name.
-fn of_two(word: &[u8], second: &[u8]) -> Command {
+fn of_two(word: &[u8], second: &[u8]) -> Command
+    ensures { λ r. ⌜ r ≡ named (secondWords (now (word .entry))) (now (second .entry)) ⌝ }
+{
     if same(word, b"row") {
         return of_row(second);
     }
@@ -337,7 +327,9 @@ pub struct Named {
 }
 
 // Both words of a name: the first from `start` to `end`, the second after it.
-fn two_words(line: &[u8], start: usize, end: usize) -> Named {
+fn two_words(line: &[u8], start: usize, end: usize) -> Named
+    ensures { λ r. ⌜ r ≡ twoWordName (now (line .entry)) start end ⌝ }
+{
     match next_word(line, end) {
         Word::At {
             start: second,
@@ -353,15 +345,23 @@ fn two_words(line: &[u8], start: usize, end: usize) -> Named {
     }
 }
 
-fn name_with(command: Command, line: &[u8], start: usize, end: usize) -> Named {
+fn name_with(command: Command, line: &[u8], start: usize, end: usize) -> Named
+    ensures { λ r. ⌜ r ≡ nameBy command (now (line .entry)) start end ⌝ }
+{
     match command {
         Command::Unknown => two_words(line, start, end),
-        _ => Named { command, next: end },
+        Command::Edit(_) => Named { command, next: end },
+        Command::Question(_) => Named { command, next: end },
+        Command::Loan(_) => Named { command, next: end },
+        Command::Poke(_) => Named { command, next: end },
+        Command::Nothing => Named { command, next: end },
     }
 }
 
 // The command that a line names.
-pub fn name_of(line: &[u8]) -> Named {
+pub fn name_of(line: &[u8]) -> Named
+    ensures { λ r. ⌜ r ≡ nameOf (now (line .entry)) ⌝ }
+{
     match next_word(line, 0) {
         Word::At { start, end } => name_with(of_word(part(line, start, end)), line, start, end),
         Word::Missing => Named {

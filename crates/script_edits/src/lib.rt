@@ -1,6 +1,12 @@
 // The orders of the replay script that edit an arm, each played by one call of the library.
 ghost use mathlib.Core.Path.{_≡_};
-ghost use Prim.Native.Nat.{_≤_, min};
+ghost use Prim.Native.Nat.{_≤_};
+ghost use Rattle.working.specs.Outcome.{out};
+ghost use Rattle.one_link_move.specs.Move.{linkMoved};
+ghost use Rattle.arm_edits.specs.Rows.{rowWritten};
+ghost use Rattle.arm_edits.specs.Springs.{armSpringSet};
+ghost use Rattle.script_edits.specs.Arguments.{number, float, poseAt, pointAt, newLinkOf, newCouplingOf, springOf, framesOf, centreOf};
+ghost use Rattle.script_edits.specs.Edits.{emptiedOver, editOf};
 use addition::NewLink;
 use addition::add_link;
 use arm::Arm;
@@ -28,6 +34,7 @@ use working::full_working;
 
 fn pose_at(floats: [f32; FLOATS], at: usize) -> Pose
     requires { ⌜ at ≤ 6 ⌝ }
+    ensures { λ r. ⌜ r ≡ poseAt floats at ⌝ }
 {
     Pose {
         re: floats[at],
@@ -39,6 +46,7 @@ fn pose_at(floats: [f32; FLOATS], at: usize) -> Pose
 
 fn point_at(floats: [f32; FLOATS], at: usize) -> Point
     requires { ⌜ at ≤ 8 ⌝ }
+    ensures { λ r. ⌜ r ≡ pointAt floats at ⌝ }
 {
     Point {
         x: floats[at],
@@ -46,7 +54,9 @@ fn point_at(floats: [f32; FLOATS], at: usize) -> Point
     }
 }
 
-fn new_link(numbers: [u32; NUMBERS], floats: [f32; FLOATS]) -> NewLink {
+fn new_link(numbers: [u32; NUMBERS], floats: [f32; FLOATS]) -> NewLink
+    ensures { λ r. ⌜ r ≡ newLinkOf numbers floats ⌝ }
+{
     NewLink {
         tag: numbers[0],
         parent: numbers[1],
@@ -59,7 +69,9 @@ fn new_link(numbers: [u32; NUMBERS], floats: [f32; FLOATS]) -> NewLink {
     }
 }
 
-fn new_coupling(numbers: [u32; NUMBERS], floats: [f32; FLOATS]) -> NewCoupling {
+fn new_coupling(numbers: [u32; NUMBERS], floats: [f32; FLOATS]) -> NewCoupling
+    ensures { λ r. ⌜ r ≡ newCouplingOf numbers floats ⌝ }
+{
     NewCoupling {
         link1: numbers[0],
         axis1: numbers[1],
@@ -72,12 +84,16 @@ fn new_coupling(numbers: [u32; NUMBERS], floats: [f32; FLOATS]) -> NewCoupling {
 
 // ---- Edits
 
-fn edit_row(arm: Arm, name: RowName, numbers: [u32; NUMBERS], floats: [f32; FLOATS]) -> Edited {
+fn edit_row(arm: Arm, name: RowName, numbers: [u32; NUMBERS], floats: [f32; FLOATS]) -> Edited
+    ensures { λ r. ⌜ r ≡ rowWritten arm name (number numbers 0) (number numbers 1) (float floats 0) ⌝ }
+{
     write_row(arm, name, numbers[0], numbers[1], floats[0])
 }
 
 // An empty arm over the tables; refused, the arm stays.
-fn edit_empty(arm: Arm, tables: &mut [f32]) -> Edited {
+fn edit_empty(arm: Arm, tables: &mut [f32]) -> Edited
+    ensures { λ e. ⌜ out e (now (tables .exit)) ≡ emptiedOver arm (now (tables .entry)) ⌝ }
+{
     let e = working::empty(tables);
     if e.refusal != 0 {
         return Edited {
@@ -88,7 +104,9 @@ fn edit_empty(arm: Arm, tables: &mut [f32]) -> Edited {
     e
 }
 
-fn edit_coordinate(arm: Arm, tables: &mut [f32], numbers: [u32; NUMBERS], value: f32) -> Edited {
+fn edit_coordinate(arm: Arm, tables: &mut [f32], numbers: [u32; NUMBERS], value: f32) -> Edited
+    ensures { λ e. ⌜ out e (now (tables .exit)) ≡ linkMoved arm (now (tables .entry)) (number numbers 0) (Change.Coordinate (number numbers 1) value) ⌝ }
+{
     let change = Change::Coordinate {
         axis: numbers[1],
         value,
@@ -96,7 +114,9 @@ fn edit_coordinate(arm: Arm, tables: &mut [f32], numbers: [u32; NUMBERS], value:
     move_link(arm, tables, numbers[0], change)
 }
 
-fn edit_frames(arm: Arm, tables: &mut [f32], link: u32, floats: [f32; FLOATS]) -> Edited {
+fn edit_frames(arm: Arm, tables: &mut [f32], link: u32, floats: [f32; FLOATS]) -> Edited
+    ensures { λ e. ⌜ out e (now (tables .exit)) ≡ linkMoved arm (now (tables .entry)) link (framesOf floats) ⌝ }
+{
     let change = Change::Frames {
         first: pose_at(floats, 0),
         second: pose_at(floats, 4),
@@ -104,11 +124,15 @@ fn edit_frames(arm: Arm, tables: &mut [f32], link: u32, floats: [f32; FLOATS]) -
     move_link(arm, tables, link, change)
 }
 
-fn edit_centre(arm: Arm, tables: &mut [f32], link: u32, floats: [f32; FLOATS]) -> Edited {
+fn edit_centre(arm: Arm, tables: &mut [f32], link: u32, floats: [f32; FLOATS]) -> Edited
+    ensures { λ e. ⌜ out e (now (tables .exit)) ≡ linkMoved arm (now (tables .entry)) link (centreOf floats) ⌝ }
+{
     move_link(arm, tables, link, Change::Centre(point_at(floats, 0)))
 }
 
-fn edit_spring(arm: Arm, numbers: [u32; NUMBERS], floats: [f32; FLOATS]) -> Edited {
+fn edit_spring(arm: Arm, numbers: [u32; NUMBERS], floats: [f32; FLOATS]) -> Edited
+    ensures { λ r. ⌜ r ≡ armSpringSet arm (number numbers 0) (number numbers 1) (springOf floats) ⌝ }
+{
     let spring = Spring {
         stiffness: floats[0],
         rest: floats[1],
@@ -123,7 +147,9 @@ pub fn edited_by(
     tables: &mut [f32],
     numbers: [u32; NUMBERS],
     floats: [f32; FLOATS],
-) -> Edited {
+) -> Edited
+    ensures { λ e. ⌜ out e (now (tables .exit)) ≡ editOf edit arm (now (tables .entry)) numbers floats ⌝ }
+{
     match edit {
         Edit::Empty => edit_empty(arm, tables),
         Edit::Full => full_working(arm, tables),

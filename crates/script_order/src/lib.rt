@@ -1,6 +1,10 @@
 // A line of the replay script as an order: a command with its numbers, its floats and, of some commands, a list of any length.
 ghost use mathlib.Core.Path.{_≡_};
 ghost use Prim.Native.Nat.{_*_, _≤_};
+ghost use Rattle.script_order.specs.Shapes.{takes, editShape, questionShape, loanShape, pokeShape, shapeOf};
+ghost use Rattle.script_order.specs.Arguments.{byteOf, numberAt, floatAt, maskAt, holding, fill, numbersOf, floatsOf};
+ghost use Rattle.script_order.specs.Fits.{loanFits, linkByteFits, couplingFits, pokeFits, fitsCommand};
+ghost use Rattle.script_order.specs.Orders.{listed, restOf, bareOrder, orderWith, ordered, readOrder, orderOf};
 use script_command::Command;
 use script_command::Edit;
 use script_command::FLOATS;
@@ -31,7 +35,9 @@ pub struct Shape {
     pub rest: Rest,
 }
 
-fn fixed(numbers: usize, floats: usize) -> Shape {
+fn fixed(numbers: usize, floats: usize) -> Shape
+    ensures { λ r. ⌜ r ≡ takes numbers floats Rest.Nothing ⌝ }
+{
     Shape {
         numbers,
         floats,
@@ -39,7 +45,9 @@ fn fixed(numbers: usize, floats: usize) -> Shape {
     }
 }
 
-fn edit_shape(edit: Edit) -> Shape {
+fn edit_shape(edit: Edit) -> Shape
+    ensures { λ r. ⌜ r ≡ editShape edit ⌝ }
+{
     match edit {
         Edit::Empty => fixed(0, 0),
         Edit::Full => fixed(0, 0),
@@ -62,7 +70,9 @@ fn edit_shape(edit: Edit) -> Shape {
     }
 }
 
-fn with_floats(numbers: usize) -> Shape {
+fn with_floats(numbers: usize) -> Shape
+    ensures { λ r. ⌜ r ≡ takes numbers 0 Rest.Floats ⌝ }
+{
     Shape {
         numbers,
         floats: 0,
@@ -70,7 +80,9 @@ fn with_floats(numbers: usize) -> Shape {
     }
 }
 
-fn question_shape(question: Question) -> Shape {
+fn question_shape(question: Question) -> Shape
+    ensures { λ r. ⌜ r ≡ questionShape question ⌝ }
+{
     match question {
         Question::Spring => fixed(2, 0),
         Question::Branch => fixed(1, 0),
@@ -96,7 +108,9 @@ fn question_shape(question: Question) -> Shape {
     }
 }
 
-fn loan_shape(loan: Loan) -> Shape {
+fn loan_shape(loan: Loan) -> Shape
+    ensures { λ r. ⌜ r ≡ loanShape loan ⌝ }
+{
     match loan {
         Loan::New => fixed(0, 0),
         Loan::Mass => with_floats(1),
@@ -106,7 +120,9 @@ fn loan_shape(loan: Loan) -> Shape {
     }
 }
 
-fn poke_shape(poke: Poke) -> Shape {
+fn poke_shape(poke: Poke) -> Shape
+    ensures { λ r. ⌜ r ≡ pokeShape poke ⌝ }
+{
     match poke {
         Poke::Links => fixed(1, 0),
         Poke::Couplings => fixed(1, 0),
@@ -123,7 +139,9 @@ fn poke_shape(poke: Poke) -> Shape {
     }
 }
 
-pub fn shape_of(command: Command) -> Shape {
+pub fn shape_of(command: Command) -> Shape
+    ensures { λ r. ⌜ r ≡ shapeOf command ⌝ }
+{
     match command {
         Command::Edit(edit) => edit_shape(edit),
         Command::Question(question) => question_shape(question),
@@ -134,141 +152,71 @@ pub fn shape_of(command: Command) -> Shape {
     }
 }
 
-// ---- Numbers and floats
+// ---- Arguments
 
-// Numbers that were read, and where they end.
-pub struct Numbers {
-    pub read: bool,
-    pub values: [u32; NUMBERS],
+// A number as a byte, and 255 for any larger one: as a mask, a link or an axis it is refused as well.
+pub fn byte_of(number: u32) -> u8
+    ensures { λ r. ⌜ r ≡ byteOf number ⌝ }
+{
+    if number < 255 { number as u8 } else { 255 }
+}
+
+// How many places of lent memory were filled, and where the last word read ends.
+pub struct Filled {
+    pub count: usize,
     pub next: usize,
 }
 
-fn read_numbers(line: &[u8], at: usize, count: usize) -> Numbers {
-    let mut values = [0u32; NUMBERS];
+// At most so many numbers of a line into the front of lent memory, up to the first word that is none.
+fn fill_numbers(line: &[u8], at: usize, most: usize, lent: &mut [u32]) -> Filled
+    ensures { λ r. ⌜ holding r (now (lent .exit)) ≡ fill (numberAt (now (line .entry))) most (now (lent .entry)) at ⌝ }
+{
     let mut next = at;
     let mut i = 0;
-    while i < count {
+    while (i < most) & (i < lent.len()) {
         match next_number(line, next) {
             NextNumber::Value {
                 number,
                 next: after,
             } => {
-                if i < NUMBERS {
-                    values[i] = number;
-                }
+                lent[i] = number;
                 next = after;
             }
-            NextNumber::Missing => {
-                return Numbers {
-                    read: false,
-                    values,
-                    next,
-                };
-            }
-            NextNumber::Unreadable => {
-                return Numbers {
-                    read: false,
-                    values,
-                    next,
-                };
-            }
+            NextNumber::Missing => return Filled { count: i, next },
+            NextNumber::Unreadable => return Filled { count: i, next },
         }
         i += 1;
     }
-    Numbers {
-        read: true,
-        values,
-        next,
-    }
+    Filled { count: i, next }
 }
 
-// Floats that were read, and where they end.
-pub struct Floats {
-    pub read: bool,
-    pub values: [f32; FLOATS],
-    pub next: usize,
-}
-
-fn read_floats(line: &[u8], at: usize, count: usize) -> Floats {
-    let mut values = [0.0f32; FLOATS];
+// Floats, likewise.
+fn fill_floats(line: &[u8], at: usize, most: usize, lent: &mut [f32]) -> Filled
+    ensures { λ r. ⌜ holding r (now (lent .exit)) ≡ fill (floatAt (now (line .entry))) most (now (lent .entry)) at ⌝ }
+{
     let mut next = at;
     let mut i = 0;
-    while i < count {
-        match next_float(line, next) {
-            NextFloat::Value { float, next: after } => {
-                if i < FLOATS {
-                    values[i] = float;
-                }
-                next = after;
-            }
-            NextFloat::Missing => {
-                return Floats {
-                    read: false,
-                    values,
-                    next,
-                };
-            }
-            NextFloat::Unreadable => {
-                return Floats {
-                    read: false,
-                    values,
-                    next,
-                };
-            }
-        }
-        i += 1;
-    }
-    Floats {
-        read: true,
-        values,
-        next,
-    }
-}
-
-// ---- Lists
-
-// How many words a list has; none that can be read so.
-pub enum List {
-    Of(usize),
-    Unreadable,
-}
-
-// The rest of a line as floats, into the front of lent memory, which must have a place for each.
-fn list_floats(line: &[u8], at: usize, lent: &mut [f32]) -> List {
-    let mut next = at;
-    let mut i = 0;
-    while i < lent.len() {
+    while (i < most) & (i < lent.len()) {
         match next_float(line, next) {
             NextFloat::Value { float, next: after } => {
                 lent[i] = float;
                 next = after;
             }
-            NextFloat::Missing => {
-                return List::Of(i);
-            }
-            NextFloat::Unreadable => {
-                return List::Unreadable;
-            }
+            NextFloat::Missing => return Filled { count: i, next },
+            NextFloat::Unreadable => return Filled { count: i, next },
         }
         i += 1;
     }
-    if is_last(line, next) {
-        List::Of(i)
-    } else {
-        List::Unreadable
-    }
+    Filled { count: i, next }
 }
 
-// A number as a byte, and 255 for any larger one: as a mask, a link or an axis it is refused as well.
-pub fn byte_of(number: u32) -> u8 {
-    if number < 255 { number as u8 } else { 255 }
-}
-
-// The rest of a line as masks, likewise.
-fn list_masks(line: &[u8], at: usize, lent: &mut [u8]) -> List {
+// Masks, likewise.
+fn fill_masks(line: &[u8], at: usize, most: usize, lent: &mut [u8]) -> Filled
+    ensures { λ r. ⌜ holding r (now (lent .exit)) ≡ fill (maskAt (now (line .entry))) most (now (lent .entry)) at ⌝ }
+{
     let mut next = at;
     let mut i = 0;
-    while i < lent.len() {
+    while (i < most) & (i < lent.len()) {
         match next_number(line, next) {
             NextNumber::Value {
                 number,
@@ -277,33 +225,60 @@ fn list_masks(line: &[u8], at: usize, lent: &mut [u8]) -> List {
                 lent[i] = byte_of(number);
                 next = after;
             }
-            NextNumber::Missing => {
-                return List::Of(i);
-            }
-            NextNumber::Unreadable => {
-                return List::Unreadable;
-            }
+            NextNumber::Missing => return Filled { count: i, next },
+            NextNumber::Unreadable => return Filled { count: i, next },
         }
         i += 1;
     }
-    if is_last(line, next) {
-        List::Of(i)
-    } else {
-        List::Unreadable
+    Filled { count: i, next }
+}
+
+// So many numbers of a line, and where they end.
+pub struct Numbers {
+    pub read: bool,
+    pub values: [u32; NUMBERS],
+    pub next: usize,
+}
+
+fn read_numbers(line: &[u8], at: usize, count: usize) -> Numbers
+    ensures { λ r. ⌜ r ≡ numbersOf (now (line .entry)) count at ⌝ }
+{
+    let mut values = [0u32; NUMBERS];
+    let filled = fill_numbers(line, at, count, &mut values);
+    Numbers {
+        read: filled.count == count,
+        values,
+        next: filled.next,
     }
 }
 
-fn read_rest(line: &[u8], at: usize, rest: Rest, floats: &mut [f32], masks: &mut [u8]) -> List {
+// So many floats of a line, and where they end.
+pub struct Floats {
+    pub read: bool,
+    pub values: [f32; FLOATS],
+    pub next: usize,
+}
+
+fn read_floats(line: &[u8], at: usize, count: usize) -> Floats
+    ensures { λ r. ⌜ r ≡ floatsOf (now (line .entry)) count at ⌝ }
+{
+    let mut values = [0.0f32; FLOATS];
+    let filled = fill_floats(line, at, count, &mut values);
+    Floats {
+        read: filled.count == count,
+        values,
+        next: filled.next,
+    }
+}
+
+// The rest of a line as a list, into the front of lent memory.
+fn read_rest(line: &[u8], at: usize, rest: Rest, floats: &mut [f32], masks: &mut [u8]) -> Filled
+    ensures { λ r. ⌜ listed r (now (floats .exit)) (now (masks .exit)) ≡ restOf (now (line .entry)) rest (now (floats .entry)) (now (masks .entry)) at ⌝ }
+{
     match rest {
-        Rest::Nothing => {
-            if is_last(line, at) {
-                List::Of(0)
-            } else {
-                List::Unreadable
-            }
-        }
-        Rest::Floats => list_floats(line, at, floats),
-        Rest::Masks => list_masks(line, at, masks),
+        Rest::Nothing => Filled { count: 0, next: at },
+        Rest::Floats => fill_floats(line, at, floats.len(), floats),
+        Rest::Masks => fill_masks(line, at, masks.len(), masks),
     }
 }
 
@@ -320,7 +295,9 @@ fn square(n: u32) -> usize
 }
 
 // A mass matrix has as many floats as its number of rows says.
-fn loan_fits(loan: Loan, numbers: [u32; NUMBERS], count: usize) -> bool {
+fn loan_fits(loan: Loan, numbers: [u32; NUMBERS], count: usize) -> bool
+    ensures { λ r. ⌜ r ≡ loanFits loan numbers count ⌝ }
+{
     match loan {
         Loan::Mass => {
             let n = numbers[0];
@@ -337,11 +314,15 @@ fn loan_fits(loan: Loan, numbers: [u32; NUMBERS], count: usize) -> bool {
 }
 
 // A link, its number below 16, and a byte.
-fn link_byte_fits(numbers: [u32; NUMBERS]) -> bool {
+fn link_byte_fits(numbers: [u32; NUMBERS]) -> bool
+    ensures { λ r. ⌜ r ≡ linkByteFits numbers ⌝ }
+{
     (numbers[0] < 16) & (numbers[1] <= 255)
 }
 
-fn coupling_fits(numbers: [u32; NUMBERS]) -> bool {
+fn coupling_fits(numbers: [u32; NUMBERS]) -> bool
+    ensures { λ r. ⌜ r ≡ couplingFits numbers ⌝ }
+{
     (numbers[0] < 8)
         & (numbers[1] <= 255)
         & (numbers[2] <= 255)
@@ -349,7 +330,9 @@ fn coupling_fits(numbers: [u32; NUMBERS]) -> bool {
         & (numbers[4] <= 255)
 }
 
-fn poke_fits(poke: Poke, numbers: [u32; NUMBERS]) -> bool {
+fn poke_fits(poke: Poke, numbers: [u32; NUMBERS]) -> bool
+    ensures { λ r. ⌜ r ≡ pokeFits poke numbers ⌝ }
+{
     match poke {
         Poke::Links => numbers[0] <= 255,
         Poke::Couplings => numbers[0] <= 255,
@@ -366,7 +349,9 @@ fn poke_fits(poke: Poke, numbers: [u32; NUMBERS]) -> bool {
     }
 }
 
-fn fits(command: Command, numbers: [u32; NUMBERS], count: usize) -> bool {
+fn fits(command: Command, numbers: [u32; NUMBERS], count: usize) -> bool
+    ensures { λ r. ⌜ r ≡ fitsCommand command numbers count ⌝ }
+{
     match command {
         Command::Edit(_) => true,
         Command::Question(_) => true,
@@ -388,7 +373,9 @@ pub struct Order {
 }
 
 // An order without arguments.
-fn bare(command: Command) -> Order {
+fn bare(command: Command) -> Order
+    ensures { λ r. ⌜ r ≡ bareOrder command ⌝ }
+{
     Order {
         command,
         numbers: [0u32; NUMBERS],
@@ -397,29 +384,26 @@ fn bare(command: Command) -> Order {
     }
 }
 
-fn order_with(
-    command: Command,
-    numbers: [u32; NUMBERS],
-    floats: [f32; FLOATS],
-    list: List,
-) -> Order {
-    match list {
-        List::Of(count) => {
-            if fits(command, numbers, count) {
-                return Order {
-                    command,
-                    numbers,
-                    floats,
-                    count,
-                };
-            }
-            bare(Command::Unknown)
-        }
-        List::Unreadable => bare(Command::Unknown),
+// What was read, where it is the last of the line and the numbers fit; else the line is unreadable.
+fn order_with(last: bool, command: Command, numbers: Numbers, floats: Floats, count: usize) -> Order
+    ensures { λ r. ⌜ r ≡ orderWith last command (numbers .values) (floats .values) count ⌝ }
+{
+    let values = numbers.values;
+    let given = floats.values;
+    if last & fits(command, values, count) {
+        return Order {
+            command,
+            numbers: values,
+            floats: given,
+            count,
+        };
     }
+    bare(Command::Unknown)
 }
 
-fn read_order(line: &[u8], floats: &mut [f32], masks: &mut [u8]) -> Order {
+fn read_order(line: &[u8], floats: &mut [f32], masks: &mut [u8]) -> Order
+    ensures { λ r. ⌜ ordered r (now (floats .exit)) (now (masks .exit)) ≡ readOrder (now (line .entry)) (now (floats .entry)) (now (masks .entry)) ⌝ }
+{
     let name = name_of(line);
     let command = name.command;
     let shape = shape_of(command);
@@ -433,13 +417,19 @@ fn read_order(line: &[u8], floats: &mut [f32], masks: &mut [u8]) -> Order {
     }
     let rest = shape.rest;
     let list = read_rest(line, given.next, rest, floats, masks);
-    let values = numbers.values;
-    let read = given.values;
-    order_with(command, values, read, list)
+    order_with(
+        is_last(line, list.next),
+        command,
+        numbers,
+        given,
+        list.count,
+    )
 }
 
 // The order of a line. Floats and masks are lent for a list: a place for each word of the longest line.
-pub fn order_of(kind: Line, line: &[u8], floats: &mut [f32], masks: &mut [u8]) -> Order {
+pub fn order_of(kind: Line, line: &[u8], floats: &mut [f32], masks: &mut [u8]) -> Order
+    ensures { λ r. ⌜ ordered r (now (floats .exit)) (now (masks .exit)) ≡ orderOf kind (now (line .entry)) (now (floats .entry)) (now (masks .entry)) ⌝ }
+{
     match kind {
         Line::Read => read_order(line, floats, masks),
         Line::TooLong => bare(Command::Unknown),

@@ -1,0 +1,4 @@
+pub mod Shapes
+pub mod Arguments
+pub mod Fits
+pub mod Orders
