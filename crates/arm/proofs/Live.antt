@@ -10,9 +10,9 @@ use lib.Dec.{eqb}
 use lib.ListN.{length, take, getD, length-take, length-map}
 use lib.Seq.{getD-take, length-take-le}
 use Rattle.limits.specs.Limits.{linkLimit, dofLimit}
-use Rattle.masks.specs.Masks.{dofsBelow, dofsOf}
+use Rattle.masks.specs.Masks.{dofsOf}
 use Rattle.masks.specs.Starts.{totalOf, startOf}
-use Rattle.masks.proofs.Laws.{dofs-le, below-le}
+use Rattle.masks.proofs.Laws.{dofs-le}
 use Rattle.masks.proofs.Totals.{start-next, start-all, start-in, total-le}
 use Rattle.arm.specs.declared.Link.{Link}
 use Rattle.arm.specs.declared.Arm.{Arm}
@@ -109,10 +109,6 @@ within (m ∷ ms) (suc i) = omega (arith, within ms i)
 pub start-within : (a : Arm) (i : ℕ) → startAt a i ≤ dofCountOf a
 unfolding startAt dofCountOf
 start-within a i = within (masksOf a) i
-
--- a place in a row, as a sum that fits
-pub place-small : (a : Arm) (i axis m s b : ℕ) → s ≡ startAt a i → b ≡ dofsBelow m axis → s + b ≤ dofLimit + 3
-place-small a i axis m s b p q = omega (arith, start-within a i, dof-count-le a, below-le m axis, dofs-le m)
 
 pub dofs-small : (mask r : ℕ) → r ≡ dofsOf mask → r ≤ 3
 dofs-small mask r e = omega (arith, dofs-le mask)

@@ -3,17 +3,13 @@ use borrow.Author.Needs.{needs}
 use Rattle.arm.proofs.Accepted.{own-then-arm}
 use Prim.Native.Nat.{ℕ}
 use mathlib.Core.Bool.{Bool}
-use mathlib.Core.List.{List}
-use mathlib.Core.Path.{_≡_, _∙_, ap}
-use lib.ListN.{length, take, getD}
+use mathlib.Core.Path.{_≡_, _∙_}
 use lib.Ieee.{Float}
-use Rattle.limits.specs.Limits.{linkLimit}
 use Rattle.masks.specs.Masks.{isAxis, isFree}
 use Rattle.arm.specs.declared.Arm.{Arm}
-use Rattle.arm.specs.declared.HandedIn.{HandedIn}
-use Rattle.arm.specs.Arm.{isLink, liveLinks, maskAt}
-use Rattle.arm.specs.HandedIn.{armRefusal, handedIn}
-use Rattle.arm.proofs.Handed.{handed-masks}
+use Rattle.arm.specs.Arm.{isLink, maskAt}
+use Rattle.arm.specs.HandedIn.{armRefusal}
+use Rattle.arm.proofs.Handed.{found-mask, found-refusal}
 use Rattle.arm.proofs.Shape.{links-length}
 use Rattle.refusal.specs.Refusal.{unlessOf, lowerOf}
 use Rattle.floats.specs.Floats.{isFinite}
@@ -64,23 +60,13 @@ unfolding writeRefusal
 same a link axis value em eh p₄ q₅ p₅ q₆ p₆ q₇ p₇ r₇ r₆ r₅ r₄ =
     rw (r₄, r₅, r₆, r₇, p₄, p₅, p₆, p₇, q₅, q₆, q₇, em, eh, own-then-arm (unlessOf (isFinite value) 7) a)
 
--- what is found of the arm, as its own definitions have it
-module _ (a : Arm) (h : HandedIn) (whole : length (a .links) ≡ linkLimit) (e : h ≡ handedIn a) where
-  its-mask : (link : ℕ) → getD (take (liveLinks a) (h .masks)) link 7 ≡ maskAt a link
-  unfolding maskAt
-  its-mask link = ap (λ (k : HandedIn). getD (take (liveLinks a) (k .masks)) link 7) e ∙ ap (λ (ms : List ℕ). getD ms link 7) (handed-masks a whole)
-
-  its-refusal : h .refusal ≡ armRefusal a
-  unfolding handedIn
-  its-refusal = ap (λ (k : HandedIn). k .refusal) e
-
 returns : tie.Need-returns
 unfolding writeRefusal
 returns c =
     let a = c .before .before .before .before .before .before .before .before .before .before .before .before .before .before .args .arm in
     let w = links-length a (c .before .before .before .before .before .before .before .before .before .before .before .before .before .before .good .0) in
-    let m = c .before .before .before .before .before .before .before .before .before .before .before .before .mask-among .ensures ∙ its-mask a (c .before .before .before .before .before .before .before .before .before .before .before .before .before .before .args .handed) w (c .before .before .before .before .before .before .before .before .before .before .before .before .before .before .pre) (c .before .before .before .before .before .before .before .before .before .before .before .before .before .before .args .link) in
-    let h = its-refusal a (c .before .before .before .before .before .before .before .before .before .before .before .before .before .before .args .handed) w (c .before .before .before .before .before .before .before .before .before .before .before .before .before .before .pre) in
+    let m = c .before .before .before .before .before .before .before .before .before .before .before .before .mask-among .ensures ∙ found-mask a w (c .before .before .before .before .before .before .before .before .before .before .before .before .before .before .args .handed) (c .before .before .before .before .before .before .before .before .before .before .before .before .before .before .pre) (c .before .before .before .before .before .before .before .before .before .before .before .before .before .before .args .link) in
+    let h = found-refusal a w (c .before .before .before .before .before .before .before .before .before .before .before .before .before .before .args .handed) (c .before .before .before .before .before .before .before .before .before .before .before .before .before .before .pre) in
     same a (c .before .before .before .before .before .before .before .before .before .before .before .before .before .before .args .link) (c .before .before .before .before .before .before .before .before .before .before .before .before .before .before .args .axis) (c .before .before .before .before .before .before .before .before .before .before .before .before .before .before .args .value) m h (c .before .before .before .before .before .before .before .before .before .before .unless .ensures) (c .before .before .before .before .before .before .before .before .before .is-axis .ensures) (c .before .before .before .before .before .before .before .before .unless2 .ensures) (c .before .before .before .before .before .before .before .axis-is-free .ensures) (c .before .before .before .before .before .before .unless3 .ensures) (c .before .before .before .before .before .finite .ensures) (c .before .before .before .before .unless4 .ensures) (c .before .before .before .lower .ensures) (c .before .before .lower2 .ensures) (c .before .lower3 .ensures) (c .lower4 .ensures)
 
 pub write-refusal-spec : {M : Type 1} → statement M

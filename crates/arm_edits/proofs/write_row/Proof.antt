@@ -7,7 +7,7 @@ use Rattle.limits.specs.Limits.{linkLimit}
 use Rattle.arm.specs.declared.HandedIn.{HandedIn}
 use Rattle.arm.specs.Arm.{liveLinks, startAt, maskAt}
 use Rattle.arm.specs.HandedIn.{handedIn}
-use Rattle.arm.proofs.Handed.{handed-masks}
+use Rattle.arm.proofs.Handed.{found-masks}
 use native.Mathlib.Omega.{arith}
 use borrow.Author.Needs.{needs}
 use Rattle.arm.specs.declared.Arm.{Arm}
@@ -33,7 +33,7 @@ place : (a : Arm) → length (a .links) ≡ linkLimit → (h : HandedIn) → h �
     → dofAmong (take (liveLinks a) (h .masks)) link axis ≡ dofAt a link axis
 unfolding dofAmong dofAt startAt maskAt
 place a w h e link axis =
-    ap (λ (k : HandedIn). dofAmong (take (liveLinks a) (k .masks)) link axis) e ∙ ap (λ (ms : List ℕ). dofAmong ms link axis) (handed-masks a w)
+    ap (λ (ms : List ℕ). dofAmong ms link axis) (found-masks a w h e)
 
 handed-in-requires : tie.Need-handed-in-requires
 handed-in-requires c κs = search needs
