@@ -35,7 +35,8 @@ use Rattle.settled.proofs.Settles.{Facts, facts}
 use Rattle.settled.proofs.Right.{Edit, right}
 use Rattle.addition.specs.declared.NewLink.{NewLink}
 use Rattle.addition.specs.NewLink.{zeros, linkOf, entriesSet, rowsWith, addedInputs}
-use Rattle.addition.specs.Addition.{addRefusal, onlyMark, linkAdded}
+use Rattle.kinematics.specs.State.{only}
+use Rattle.addition.specs.Addition.{addRefusal, linkAdded}
 use Rattle.addition.specs.Promise.{IsAdded, AddRight}
 use Rattle.addition.proofs.Entries.{room}
 use Rattle.addition.proofs.Tests.{Passed, passed}
@@ -107,7 +108,7 @@ module _ (a : Arm) (t : List Float) (sized : Sized a) (settled : Settled a t) (n
   abbrev ls′ : List Link
   ls′ = set ls n (linkOf new)
 
-  before : (j : ℕ) → j < n + 1 → onlyMark n j ≡ false → j < n
+  before : (j : ℕ) → j < n + 1 → only n j ≡ false → j < n
   before j h e = elim (decLt j n) [
     | yes q ↦ q
     | no q ↦ absurd (eqb-false j n e (omega arith))
@@ -150,7 +151,7 @@ module _ (a : Arm) (t : List Float) (sized : Sized a) (settled : Settled a t) (n
       ∙ facts-of .fresh j h
       ∙ new-same keptOps (parentOf ls) (inputsOf ls) (parentOf ls′) (inputsOf ls′) (state ls t) (state ls′ t) j (early-parent j h) (inputs-kept j h) (λ q. sym (as-was (parentOf ls j) (parent-before j h)))
 
-  ready : Ready ls′ (n + 1) (onlyMark n) t
+  ready : Ready ls′ (n + 1) (only n) t
   ready = record {
     closed = λ j h q e. absurd (omega (arith, eqb-true (parentOf ls′ j) n e));
     fresh = λ j h e. fresh j (before j h e);
@@ -158,7 +159,7 @@ module _ (a : Arm) (t : List Float) (sized : Sized a) (settled : Settled a t) (n
     unused = λ j h l. facts-of .unused j (omega arith) l;
   }
 
-  edit : Edit a t (addedInputs a new) (onlyMark n) (IsAdded a)
+  edit : Edit a t (addedInputs a new) (only n) (IsAdded a)
   unfolding addedInputs
   edit = record {
     sized = record {
@@ -176,7 +177,7 @@ module _ (a : Arm) (t : List Float) (sized : Sized a) (settled : Settled a t) (n
 pub the-addition : AddRight
 unfolding linkAdded
 the-addition a t sized settled new =
-    right a t sized settled (addRefusal a t new) (addedInputs a new) (onlyMark (a .«link_count»)) (IsAdded a) (λ e.
+    right a t sized settled (addRefusal a t new) (addedInputs a new) (only (a .«link_count»)) (IsAdded a) (λ e.
     edit a t sized settled new (passed a t new e))
 
 -- a settled arm stays settled, refused or not

@@ -1,14 +1,12 @@
 -- What is set of an arm for a new link: its row entries and its mark. Assumes nothing.
-use Prim.Native.Nat.{ℕ, zero, suc, _+_, _-_, _≤_, _<_}
-use mathlib.Core.Path.{_≡_, refl, ap, _∙_}
-use mathlib.Core.Bool.{Bool, true, false}
+use Prim.Native.Nat.{ℕ, _+_, _-_, _≤_, _<_}
+use mathlib.Core.Path.{_≡_, ap, _∙_}
 use mathlib.Core.List.{List, _++_, map}
 use native.Mathlib.Omega.{arith}
 use native.Mathlib.Nat.{sub-zero}
-use borrow.Author.Tests.{le-leb, eqb-true, eqb-false}
-use lib.Dec.{eqb}
-use lib.ListN.{length, getD, set, take, drop, replicate, length-replicate, length-map}
-use lib.Seq.{getD-set-same, getD-set-other, length-take-le}
+use borrow.Author.Tests.{le-leb}
+use lib.ListN.{length, getD, set, take, drop, length-map}
+use lib.Seq.{length-take-le}
 use lib.Ieee.{Float}
 use Rattle.limits.specs.Limits.{linkLimit, dofLimit}
 use Rattle.refusal.specs.Refusal.{lowerOf}
@@ -26,10 +24,8 @@ use Rattle.arm.specs.Edits.{modify}
 use Rattle.arm.proofs.Lists.{filled-all}
 use Rattle.arm.proofs.Live.{masks-live}
 use Rattle.arm.proofs.Edits.{set-modify}
-use Rattle.kinematics.specs.State.{marked}
 use Rattle.kinematics.proofs.Blocks.{copied-in}
 use Rattle.addition.specs.NewLink.{zeros, entriesSet, rowsWith}
-use Rattle.addition.specs.Addition.{onlyMark}
 
 -- ---- the default damping, at the front of three places
 
@@ -70,23 +66,3 @@ rows-with a mask start n k i rows values d v w l es en ek h p ev q =
 pub room : (a : Arm) → length (a .links) ≡ linkLimit → a .«link_count» < linkLimit → dofCountOf a + 3 ≤ dofLimit
 unfolding dofCountOf
 room a w h = omega (arith, total-le (masksOf a), masks-live a w)
-
--- ---- the mark
-
-none-marked : (n j : ℕ) → getD (replicate n false) j false ≡ false
-none-marked zero j = refl
-none-marked (suc n) zero = refl
-none-marked (suc n) (suc j) = none-marked n j
-
-mark-at : (link : ℕ) → link < linkLimit → (j : ℕ) → marked (set (replicate linkLimit false) link true) j ≡ onlyMark link j
-mark-at link h j = go (eqb j link) refl
-  where
-    go : (b : Bool) → eqb j link ≡ b → marked (set (replicate linkLimit false) link true) j ≡ b
-    go true e =
-        let q = eqb-true j link e in
-        ap (marked (set (replicate linkLimit false) link true)) q
-        ∙ getD-set-same (replicate linkLimit false) link true false (omega (arith, length-replicate linkLimit false))
-    go false e = getD-set-other (replicate linkLimit false) link j true false (eqb-false j link e) ∙ none-marked linkLimit j
-
-pub marked-only : (link : ℕ) → link < linkLimit → marked (set (replicate linkLimit false) link true) ≡ onlyMark link
-marked-only link h = λ i j. mark-at link h j i

@@ -12,6 +12,7 @@ use Rattle.topology.specs.Parents.{parentFits}
 use Rattle.arm.specs.declared.Arm.{Arm}
 use Rattle.arm.specs.Arm.{tagsOf}
 use Rattle.arm.specs.HandedIn.{isNew, armRefusal}
+use Rattle.kinematics.specs.State.{only}
 use Rattle.working.specs.Outcome.{Outcome, unlessRefused, tablesFit, workedMarked}
 use Rattle.settled.specs.Above.{aboveFinite}
 use Rattle.addition.specs.declared.NewLink.{NewLink}
@@ -48,11 +49,8 @@ addRefusal a t new =
     ∷ armRefusal a
     ∷ [])
 
-abbrev pub onlyMark : ℕ → ℕ → Bool
-onlyMark link j = eqb j link
-
 -- the new link alone, over what is kept
 unfoldable pub linkAdded : Arm → List Float → NewLink → Outcome
 linkAdded a t new =
     unlessRefused (addRefusal a t new) a t
-    (workedMarked a (addedInputs a new) (onlyMark (a .«link_count»)) t)
+    (workedMarked a (addedInputs a new) (only (a .«link_count»)) t)

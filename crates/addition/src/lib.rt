@@ -7,10 +7,9 @@ ghost use Rattle.masks.specs.Masks.{dampingRow};
 ghost use Rattle.masks.specs.Answers.{laid};
 ghost use Rattle.arm.specs.Arm.{tagsOf, dofCountOf};
 ghost use Rattle.arm.specs.HandedIn.{isNew};
-ghost use Rattle.kinematics.specs.State.{marked};
 ghost use Rattle.working.specs.Outcome.{out};
 ghost use Rattle.addition.specs.NewLink.{Small, linkOf, entriesSet, zeros, rowsWith, addedInputs};
-ghost use Rattle.addition.specs.Addition.{masksFit, floatsFinite, turnsFit, addRefusal, onlyMark, linkAdded};
+ghost use Rattle.addition.specs.Addition.{masksFit, floatsFinite, turnsFit, addRefusal, linkAdded};
 use arm::Arm;
 use arm::Edited;
 use arm::Link;
@@ -38,7 +37,7 @@ use refusal::unless;
 use settled::is_finite_above;
 use topology::parent_fits;
 use working::tables_fit;
-use working::work_marked;
+use working::work_one;
 
 // What the caller gives of a link. Numbers are any, so that none is cut.
 #[repr(C)]
@@ -219,15 +218,6 @@ fn with_link(arm: Arm, new: NewLink) -> Arm
 
 // ---- The addition
 
-fn mark_of(link: usize) -> [bool; LINKS]
-    requires { ⌜ link < linkLimit ⌝ }
-    ensures { λ r. ⌜ marked r ≡ onlyMark link ⌝ }
-{
-    let mut marks = [false; LINKS];
-    marks[link] = true;
-    marks
-}
-
 // A link is added behind the last, and it alone is worked out; nothing else is touched.
 pub fn add_link(arm: Arm, tables: &mut [f32], new: NewLink) -> Edited
     ensures { λ e. ⌜ out e (now (tables .exit)) ≡ linkAdded arm (now (tables .entry)) new ⌝ }
@@ -236,7 +226,6 @@ pub fn add_link(arm: Arm, tables: &mut [f32], new: NewLink) -> Edited
     if refusal != 0 {
         return Edited { refusal, arm };
     }
-    let marks = mark_of(arm.link_count);
     let added = with_link(arm, new);
-    work_marked(arm, added, marks, tables)
+    work_one(arm, added, arm.link_count, tables)
 }

@@ -16,14 +16,14 @@ use Rattle.arm.specs.Arm.{tagsOf}
 use Rattle.arm.specs.HandedIn.{armRefusal}
 use Rattle.arm.specs.Agree.{Agree, Sized}
 use Rattle.arm.proofs.Agree.{same-parents, same-mask-at, same-arm-refusal}
-use Rattle.kinematics.specs.State.{marked}
+use Rattle.kinematics.specs.State.{marked, only}
 use Rattle.working.specs.Outcome.{tablesFit, workedAll}
 use Rattle.working.specs.Full.{fullRefusal, fullWorking}
 use Rattle.settled.proofs.Lowest.{none-of, holds}
 use Rattle.one_link_move.specs.declared.Change.{Change}
 use Rattle.one_link_move.specs.Move.{moveRefusal, linkMoved}
 use Rattle.addition.specs.declared.NewLink.{NewLink}
-use Rattle.addition.specs.Addition.{addRefusal, onlyMark, linkAdded}
+use Rattle.addition.specs.Addition.{addRefusal, linkAdded}
 use Rattle.addition.proofs.Tests.{passed}
 use Rattle.whole_step.specs.Step.{armAfter, stepRefusal, wholeStep}
 use Rattle.root_change.specs.Root.{isRootMask, rootRefusal, changedRoot}
@@ -92,7 +92,7 @@ addition-respects new a b t s r g =
     call-alike a b t _ _ _ _ g (add-refused a b t new g) (λ e.
     let k = passed a t new e in
     let l = passed b t new (sym (add-refused a b t new g) ∙ e) in
-    marked-alike a b _ _ t g (workable-added a b s r g t new k l) (leb-true _ _ (k .fits)) _ _ (ap onlyMark (g .link-count)))
+    marked-alike a b _ _ t g (workable-added a b s r g t new k l) (leb-true _ _ (k .fits)) _ _ (ap only (g .link-count)))
 
 -- ---- the whole step
 

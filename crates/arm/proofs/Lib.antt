@@ -2,6 +2,7 @@ pub mod Shape
 pub mod Lists
 pub mod Every
 pub mod Live
+pub mod Handed
 pub mod Accepted
 pub mod Edits
 pub mod Agree

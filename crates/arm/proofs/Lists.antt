@@ -7,6 +7,7 @@ use native.Mathlib.Numerals.{add-one}
 use native.Mathlib.Nat.{sub-zero}
 use lib.ListN.{length, take, drop, getD, set, length-drop}
 use lib.Seq.{take-suc, take-suc-set, take-all}
+use Rattle.arm.specs.HandedIn.{padded}
 
 -- ---- an array that a loop fills, to be the list s
 
@@ -50,3 +51,26 @@ module _ {A B : Type 0} (f : A → B) where
   map-set [] i v = refl
   map-set (x ∷ xs) zero v = refl
   map-set (x ∷ xs) (suc i) v = ap (λ (l : List B). f x ∷ l) (map-set xs i v)
+
+-- ---- a list with zeros behind it
+
+pub padded-more : (m i : ℕ) (xs : List ℕ) (d : ℕ) → i < m → i < length xs → set (padded m (take i xs)) i (getD xs i d) ≡ padded m (take (suc i) xs)
+unfolding padded
+padded-more zero i xs d h k = absurd (omega arith)
+padded-more (suc m) i [] d h k = absurd (omega arith)
+padded-more (suc m) zero (x ∷ xs) d h k = refl
+padded-more (suc m) (suc i) (x ∷ xs) d h k = ap (λ (l : List ℕ). x ∷ l) (padded-more m i xs d (omega arith) (omega arith))
+
+pub padded-front : (m n : ℕ) (xs : List ℕ) → n ≡ length xs → n ≤ m → take n (padded m xs) ≡ xs
+unfolding padded
+padded-front m zero [] e h = refl
+padded-front m (suc n) [] e h = absurd (omega arith)
+padded-front m zero (x ∷ xs) e h = absurd (omega arith)
+padded-front zero (suc n) (x ∷ xs) e h = absurd (omega arith)
+padded-front (suc m) (suc n) (x ∷ xs) e h = ap (λ (l : List ℕ). x ∷ l) (padded-front m n xs (omega arith) (omega arith))
+
+pub length-padded : (m : ℕ) (xs : List ℕ) → length (padded m xs) ≡ m
+unfolding padded
+length-padded zero xs = refl
+length-padded (suc m) [] = ap suc (length-padded m [])
+length-padded (suc m) (x ∷ xs) = ap suc (length-padded m xs)

@@ -10,14 +10,14 @@ use lib.Dec.{eqb}
 use lib.ListN.{length, take, getD, length-take, length-map}
 use lib.Seq.{getD-take, length-take-le}
 use Rattle.limits.specs.Limits.{linkLimit, dofLimit}
-use Rattle.masks.specs.Masks.{dofsBelow, dofsOf}
+use Rattle.masks.specs.Masks.{dofsOf}
 use Rattle.masks.specs.Starts.{totalOf, startOf}
-use Rattle.masks.proofs.Laws.{dofs-le, below-le}
+use Rattle.masks.proofs.Laws.{dofs-le}
 use Rattle.masks.proofs.Totals.{start-next, start-all, start-in, total-le}
 use Rattle.arm.specs.declared.Link.{Link}
 use Rattle.arm.specs.declared.Arm.{Arm}
 use Rattle.arm.specs.Arm.{liveLinks, linksOf, lockedOf, parentOf, tagOf, tagsOf, parentsOf, masksOf, maskAt, startAt, dofCountOf}
-use Rattle.arm.specs.HandedIn.{rootMaskFits, rootFits}
+use Rattle.arm.specs.HandedIn.{rootMaskFits}
 use Rattle.arm.proofs.Lists.{map-take, map-at}
 
 -- whatever the arrays are, no more count than fit
@@ -40,6 +40,10 @@ module _ (a : Arm) (whole : length (a .links) ≡ linkLimit) where
   pub masks-live : length (masksOf a) ≡ liveLinks a
   unfolding masksOf
   masks-live = length-map (linksOf a) lockedOf ∙ links-live
+
+  pub tags-live : length (tagsOf a) ≡ liveLinks a
+  unfolding tagsOf
+  tags-live = length-map (linksOf a) tagOf ∙ links-live
 
   pub parents-live : length (parentsOf a) ≡ liveLinks a
   unfolding parentsOf
@@ -96,7 +100,7 @@ unfolding startAt startOf totalOf
 start-none a = refl
 
 -- no start lies past the DoF count
-within : (ms : List ℕ) (i : ℕ) → startOf ms i ≤ totalOf ms
+pub within : (ms : List ℕ) (i : ℕ) → startOf ms i ≤ totalOf ms
 unfolding startOf totalOf
 within ms zero = omega arith
 within [] (suc i) = omega arith
@@ -106,26 +110,16 @@ pub start-within : (a : Arm) (i : ℕ) → startAt a i ≤ dofCountOf a
 unfolding startAt dofCountOf
 start-within a i = within (masksOf a) i
 
--- a place in a row, as a sum that fits
-pub place-small : (a : Arm) (i axis m s b : ℕ) → s ≡ startAt a i → b ≡ dofsBelow m axis → s + b ≤ dofLimit + 3
-place-small a i axis m s b p q = omega (arith, start-within a i, dof-count-le a, below-le m axis, dofs-le m)
-
 pub dofs-small : (mask r : ℕ) → r ≡ dofsOf mask → r ≤ 3
 dofs-small mask r e = omega (arith, dofs-le mask)
 
 -- ---- the root
 
-pub root-none : (a : Arm) → a .«link_count» ≡ 0 → true ≡ rootFits a
-unfolding rootFits masksOf linksOf
-root-none a e = let z : liveLinks a ≡ 0 = omega arith in rw z
+pub root-none : (ms : List ℕ) (n : ℕ) → n ≡ 0 → true ≡ rootMaskFits (take n ms)
+root-none ms n e = rw e
 
-first : (ls : List Link) (n : ℕ) (d : Link) → 0 < n → 0 < length ls
-    → (eqb (getD ls 0 d .joint .locked) 7 || eqb (getD ls 0 d .joint .locked) 0) ≡ rootMaskFits (map lockedOf (take n ls))
-first [] n d h l = absurd (omega arith)
-first (x ∷ ls) zero d h l = absurd (omega arith)
-first (x ∷ ls) (suc n) d h l = refl
-
-pub root-some : (a : Arm) → length (a .links) ≡ linkLimit → (d : Link) → (a .«link_count» ≡ 0 → ⊥)
-    → (eqb (getD (a .links) 0 d .joint .locked) 7 || eqb (getD (a .links) 0 d .joint .locked) 0) ≡ rootFits a
-unfolding rootFits masksOf linksOf
-root-some a w d h = first (a .links) (liveLinks a) d (omega arith) (omega arith)
+pub root-some : (ms : List ℕ) (n d : ℕ) → 0 < length ms → (n ≡ 0 → ⊥)
+    → (eqb (getD ms 0 d) 7 || eqb (getD ms 0 d) 0) ≡ rootMaskFits (take n ms)
+root-some ms zero d l h = absurd (h refl)
+root-some [] (suc n) d l h = absurd (omega arith)
+root-some (m ∷ ms) (suc n) d l h = refl

@@ -1,7 +1,9 @@
 -- An edit of an arm, and what the call that makes it answers.
 use Prim.Native.Nat.{ℕ, zero, suc, _+_}
 use mathlib.Core.List.{List, [], _∷_}
+use lib.ListN.{getD}
 use Rattle.masks.specs.Masks.{dofsBelow}
+use Rattle.masks.specs.Starts.{startOf}
 use Rattle.arm.specs.declared.Link.{Link}
 use Rattle.arm.specs.declared.Coupling.{Coupling}
 use Rattle.arm.specs.declared.Row.{Row}
@@ -47,6 +49,9 @@ withRows a rows = record {
   rows = rows;
 }
 
--- where in a row the entry of a link's axis stands
+-- where in a row the entry of a link's axis stands, by the links' locked masks
+unfoldable pub dofAmong : List ℕ → ℕ → ℕ → ℕ
+dofAmong masks link axis = startOf masks link + dofsBelow (getD masks link 7) axis
+
 unfoldable pub dofAt : Arm → ℕ → ℕ → ℕ
 dofAt a link axis = startAt a link + dofsBelow (maskAt a link) axis

@@ -1,5 +1,5 @@
 -- An arm handed in: document 01's rules 2 to 5, 7 and 9, each as a test of the arm up to its counts.
-use Prim.Native.Nat.{ℕ}
+use Prim.Native.Nat.{ℕ, zero, suc}
 use mathlib.Core.Bool.{Bool, true, not, _&&_, _||_}
 use mathlib.Core.List.{List, [], _∷_}
 use lib.Dec.{eqb, leb, ltb}
@@ -16,6 +16,7 @@ use Rattle.arm.specs.declared.Link.{Link}
 use Rattle.arm.specs.declared.Coupling.{Coupling}
 use Rattle.arm.specs.declared.Row.{Row}
 use Rattle.arm.specs.declared.Arm.{Arm}
+use Rattle.arm.specs.declared.HandedIn.{HandedIn}
 use Rattle.arm.specs.declared.LinkTests.{LinkTests}
 use Rattle.arm.specs.declared.CouplingTests.{CouplingTests}
 use Rattle.arm.specs.Arm.{linksOf, couplingsOf, tagsOf, parentsOf, masksOf, entriesTo, rowsOf}
@@ -133,10 +134,29 @@ armEntries a =
 unfoldable pub armRefusal : Arm → ℕ
 armRefusal a = lowest (armEntries a)
 
+-- ---- what is found of it besides
+
+-- the list, and zeros behind it: n entries in all
+unfoldable pub padded : ℕ → List ℕ → List ℕ
+padded zero xs = []
+padded (suc n) [] = 0 ∷ padded n []
+padded (suc n) (x ∷ xs) = x ∷ padded n xs
+
+-- the refusal, and the links' parents and locked masks
+unfoldable pub handedIn : Arm → HandedIn
+handedIn a = record {
+  refusal = armRefusal a;
+  parents = padded linkLimit (parentsOf a);
+  masks = padded linkLimit (masksOf a);
+}
+
 -- ---- the tests of one pass over the links, and of one over the couplings
 
 unfoldable pub linkTestsOf : Arm → LinkTests
 linkTestsOf a = record {
+  tags = padded linkLimit (tagsOf a);
+  parents = padded linkLimit (parentsOf a);
+  locked = padded linkLimit (masksOf a);
   masks = every linkMasksFit (linksOf a);
   floats = every linkFinite (linksOf a);
   angles = anglesFit a;

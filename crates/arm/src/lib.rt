@@ -3,12 +3,13 @@
 ghost use mathlib.Core.Path.{_≡_};
 ghost use mathlib.Core.List.{map};
 ghost use Prim.Native.Nat.{min, _≤_};
-ghost use lib.ListN.{length, getD};
+ghost use lib.ListN.{getD, take};
 ghost use Rattle.limits.specs.Limits.{linkLimit, dofLimit};
 ghost use Rattle.masks.specs.Starts.{startOf};
-ghost use Rattle.arm.specs.Arm.{tagOf, parentOf, lockedOf, startAt, dofCountOf, maskAt, rowNumber};
-ghost use Rattle.arm.specs.Edits.{dofAt};
-ghost use Rattle.arm.specs.HandedIn.{isNew, unique, tagsUnique, parentsEarlier, jointMasksFit, jointFinite, linkFinite, angleFits, linkTestsOf, couplingLinksFit, couplingAxesFit, couplingFinite, couplingTestsOf, rootFits, rowFinite, rowsFinite, armRefusal};
+ghost use Rattle.topology.specs.Parents.{parentsFit};
+ghost use Rattle.arm.specs.Arm.{parentOf, lockedOf, startAt, dofCountOf, maskAt, rowNumber};
+ghost use Rattle.arm.specs.Edits.{dofAmong, dofAt};
+ghost use Rattle.arm.specs.HandedIn.{every, isNew, unique, jointMasksFit, jointFinite, linkFinite, angleFits, linkTestsOf, couplingLinksFit, couplingAxesFit, couplingFinite, couplingTestsOf, rootMaskFits, rowFinite, handedIn, armRefusal};
 use floats::all_finite;
 use floats::finite;
 use limits::COUPLINGS;
@@ -97,19 +98,6 @@ pub fn live_links(count: usize) -> usize
     fewer(count, LINKS)
 }
 
-fn tags_of(arm: Arm) -> [u32; LINKS]
-    ensures { λ r. ⌜ r ≡ map tagOf (arm .links) ⌝ }
-{
-    let mut tags = [0u32; LINKS];
-    let mut i = 0;
-    while i < LINKS {
-        let l = arm.links[i];
-        tags[i] = l.tag;
-        i += 1;
-    }
-    tags
-}
-
 // The parent of each place for a link, whether it counts or not.
 pub fn parents_of(arm: Arm) -> [u8; LINKS]
     ensures { λ r. ⌜ r ≡ map parentOf (arm .links) ⌝ }
@@ -138,19 +126,22 @@ fn masks_of(arm: Arm) -> [u8; LINKS]
     masks
 }
 
-// What stands at a link in a list of masks; past its end all is locked.
-fn mask_in(masks: &[u8], link: usize) -> u8
-    ensures { λ r. ⌜ r ≡ getD (now (masks .entry)) link 7 ⌝ }
+// The locked mask of a link, of the masks of as many links as count; where there is no such link, all is locked.
+pub fn mask_among(masks: [u8; LINKS], count: usize, link: usize) -> u8
+    ensures { λ r. ⌜ r ≡ getD (take (min count linkLimit) masks) link 7 ⌝ }
 {
-    if link < masks.len() { masks[link] } else { 7 }
+    if link < live_links(count) {
+        masks[link]
+    } else {
+        7
+    }
 }
 
-// The DoFs of the masks before a link's.
-fn start_in(masks: &[u8], link: usize) -> usize
-    requires { ⌜ length (now masks) ≤ linkLimit ⌝ }
-    ensures { λ r. ⌜ r ≡ startOf (now (masks .entry)) link ⌝ }
+// The DoFs of the masks before a link's, of as many as count.
+pub fn start_among(masks: [u8; LINKS], count: usize, link: usize) -> usize
+    ensures { λ r. ⌜ r ≡ startOf (take (min count linkLimit) masks) link ⌝ }
 {
-    let n = fewer(link, masks.len());
+    let n = fewer(link, live_links(count));
     let mut start: usize = 0;
     let mut i = 0;
     while i < n {
@@ -160,22 +151,25 @@ fn start_in(masks: &[u8], link: usize) -> usize
     start
 }
 
+// Where in a row the entry of a link's axis stands, by the masks of as many links as count.
+pub fn dof_among(masks: [u8; LINKS], count: usize, link: usize, axis: u8) -> usize
+    ensures { λ r. ⌜ r ≡ dofAmong (take (min count linkLimit) masks) link axis ⌝ }
+{
+    start_among(masks, count, link) + dofs_below(mask_among(masks, count, link), axis)
+}
+
 // The locked mask of a link; where there is no such link, all is locked.
 pub fn mask_at(arm: Arm, link: usize) -> u8
     ensures { λ r. ⌜ r ≡ maskAt arm link ⌝ }
 {
-    let n = live_links(arm.link_count);
-    let masks = masks_of(arm);
-    mask_in(&masks[0..n], link)
+    mask_among(masks_of(arm), arm.link_count, link)
 }
 
 // The start of a link: the DoFs of all earlier links.
 pub fn start_of(arm: Arm, link: usize) -> usize
     ensures { λ r. ⌜ r ≡ startAt arm link ⌝ }
 {
-    let n = live_links(arm.link_count);
-    let masks = masks_of(arm);
-    start_in(&masks[0..n], link)
+    start_among(masks_of(arm), arm.link_count, link)
 }
 
 pub fn dof_count(arm: Arm) -> usize
@@ -188,7 +182,7 @@ pub fn dof_count(arm: Arm) -> usize
 pub fn dof_at(arm: Arm, link: usize, axis: u8) -> usize
     ensures { λ r. ⌜ r ≡ dofAt arm link axis ⌝ }
 {
-    start_of(arm, link) + dofs_below(mask_at(arm, link), axis)
+    dof_among(masks_of(arm), arm.link_count, link, axis)
 }
 
 pub fn row_number(name: RowName) -> usize
@@ -231,11 +225,10 @@ fn all_unique(tags: &[u32]) -> bool
     ok
 }
 
-fn tags_unique(arm: Arm) -> bool
-    ensures { λ r. ⌜ r ≡ tagsUnique arm ⌝ }
+fn tags_unique(tags: [u32; LINKS], n: usize) -> bool
+    requires { ⌜ n ≤ linkLimit ⌝ }
+    ensures { λ r. ⌜ r ≡ unique (take n tags) ⌝ }
 {
-    let n = live_links(arm.link_count);
-    let tags = tags_of(arm);
     all_unique(&tags[0..n])
 }
 
@@ -279,8 +272,11 @@ fn angle_fits(j: Joint) -> bool
     !is_beyond(coordinates[2])
 }
 
-// What is tested of every link that counts.
+// What one pass over the links that count finds: their tags, parents and locked masks, with 0 in unused places, and what is tested of each.
 struct LinkTests {
+    tags: [u32; LINKS],
+    parents: [u8; LINKS],
+    locked: [u8; LINKS],
     masks: bool,
     floats: bool,
     angles: bool,
@@ -291,41 +287,50 @@ fn link_tests(arm: Arm) -> LinkTests
 {
     let n = live_links(arm.link_count);
     let links = arm.links;
+    let mut tags = [0u32; LINKS];
+    let mut parents = [0u8; LINKS];
+    let mut locked = [0u8; LINKS];
     let mut masks = true;
     let mut floats = true;
     let mut angles = true;
     let mut i = 0;
     while i < n {
         let l = links[i];
+        tags[i] = l.tag;
+        parents[i] = l.parent;
+        locked[i] = l.joint.locked;
         masks = masks & masks_fit(l.joint);
         floats = floats & is_finite_link(l);
         angles = angles & angle_fits(l.joint);
         i += 1;
     }
     LinkTests {
+        tags,
+        parents,
+        locked,
         masks,
         floats,
         angles,
     }
 }
 
-fn parents_earlier(arm: Arm) -> bool
-    ensures { λ r. ⌜ r ≡ parentsEarlier arm ⌝ }
+// ---- Of the first n links
+
+fn parents_earlier(parents: [u8; LINKS], n: usize) -> bool
+    requires { ⌜ n ≤ linkLimit ⌝ }
+    ensures { λ r. ⌜ r ≡ parentsFit (take n parents) ⌝ }
 {
-    let n = live_links(arm.link_count);
-    let parents = parents_of(arm);
     parents_fit(&parents[0..n])
 }
 
 // A root's locked mask is 7 or 0.
-fn root_fits(arm: Arm) -> bool
-    ensures { λ r. ⌜ r ≡ rootFits arm ⌝ }
+fn root_fits(masks: [u8; LINKS], n: usize) -> bool
+    ensures { λ r. ⌜ r ≡ rootMaskFits (take n masks) ⌝ }
 {
-    if arm.link_count == 0 {
+    if n == 0 {
         return true;
     }
-    let root = arm.links[0];
-    (root.joint.locked == 7) | (root.joint.locked == 0)
+    (masks[0] == 7) | (masks[0] == 0)
 }
 
 // ---- Couplings
@@ -388,12 +393,11 @@ fn is_finite_row(row: Row, n: usize) -> bool
     all_finite(&entries[0..n])
 }
 
-// Is every row finite up to the DoF count?
-fn rows_finite(arm: Arm) -> bool
-    ensures { λ r. ⌜ r ≡ rowsFinite arm ⌝ }
+// Are the first n entries of every row finite?
+fn rows_finite(rows: [Row; 5], n: usize) -> bool
+    requires { ⌜ n ≤ dofLimit ⌝ }
+    ensures { λ r. ⌜ r ≡ every (rowFinite n) rows ⌝ }
 {
-    let n = dof_count(arm);
-    let rows = arm.rows;
     let mut ok = true;
     let mut i = 0;
     while i < 5 {
@@ -406,29 +410,55 @@ fn rows_finite(arm: Arm) -> bool
 
 // ---- The arm handed in
 
-// Rules 2 to 5, 7 and 9: the lowest that an arm breaks.
-pub fn arm_refusal(arm: Arm) -> u8
-    ensures { λ r. ⌜ r ≡ armRefusal arm ⌝ }
+// What is found of an arm handed in: the lowest of rules 2 to 5, 7 and 9 that it breaks, and its links' parents and locked masks, with 0 in unused
+// places.
+pub struct HandedIn {
+    pub refusal: u8,
+    pub parents: [u8; LINKS],
+    pub masks: [u8; LINKS],
+}
+
+pub fn handed_in(arm: Arm) -> HandedIn
+    ensures { λ r. ⌜ r ≡ handedIn arm ⌝ }
 {
+    let n = live_links(arm.link_count);
     let links = link_tests(arm);
     let couplings = coupling_tests(arm);
-    lower(
+    let tags = links.tags;
+    let parents = links.parents;
+    let masks = links.locked;
+    let rows = arm.rows;
+    let fine = rows_finite(rows, start_among(masks, n, LINKS));
+    let refusal = lower(
         unless(
             (arm.link_count <= LINKS) & (arm.coupling_count <= COUPLINGS),
             2,
         ),
         lower(
-            unless(tags_unique(arm), 3),
+            unless(tags_unique(tags, n), 3),
             lower(
-                unless(parents_earlier(arm) & couplings.links, 4),
+                unless(parents_earlier(parents, n) & couplings.links, 4),
                 lower(
-                    unless(links.masks & root_fits(arm) & couplings.axes, 5),
+                    unless(links.masks & root_fits(masks, n) & couplings.axes, 5),
                     lower(
-                        unless(links.floats & couplings.floats & rows_finite(arm), 7),
+                        unless(links.floats & couplings.floats & fine, 7),
                         unless(links.angles, 9),
                     ),
                 ),
             ),
         ),
-    )
+    );
+    HandedIn {
+        refusal,
+        parents,
+        masks,
+    }
+}
+
+// Rules 2 to 5, 7 and 9: the lowest that an arm breaks.
+pub fn arm_refusal(arm: Arm) -> u8
+    ensures { λ r. ⌜ r ≡ armRefusal arm ⌝ }
+{
+    let handed = handed_in(arm);
+    handed.refusal
 }

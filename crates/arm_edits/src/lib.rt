@@ -4,18 +4,21 @@ ghost use mathlib.Core.Path.{_≡_};
 ghost use Prim.Native.Nat.{_<_};
 ghost use Rattle.limits.specs.Limits.{dofLimit};
 ghost use Rattle.masks.specs.Masks.{isFree};
+ghost use Rattle.arm.specs.HandedIn.{handedIn};
 ghost use Rattle.arm_edits.specs.Rows.{writeRefusal, entrySet, rowWritten};
 ghost use Rattle.arm_edits.specs.Springs.{springFinite, springRefusal, linkSpringSet, armSpringSet};
 ghost use Rattle.arm_edits.specs.Couplings.{couplingRefusal, couplingAdded};
 use arm::Arm;
 use arm::Coupling;
 use arm::Edited;
+use arm::HandedIn;
 use arm::Link;
 use arm::Row;
 use arm::RowName;
 use arm::arm_refusal;
-use arm::dof_at;
-use arm::mask_at;
+use arm::dof_among;
+use arm::handed_in;
+use arm::mask_among;
 use floats::finite;
 use limits::COUPLINGS;
 use masks::is_axis;
@@ -36,17 +39,19 @@ fn axis_is_free(mask: u8, axis: u32) -> bool
     false
 }
 
-fn write_refusal(arm: Arm, link: u32, axis: u32, value: f32) -> u8
+fn write_refusal(arm: Arm, handed: HandedIn, link: u32, axis: u32, value: f32) -> u8
+    requires { ⌜ handed ≡ handedIn arm ⌝ }
     ensures { λ r. ⌜ r ≡ writeRefusal arm link axis value ⌝ }
 {
-    let mask = mask_at(arm, link as usize);
+    let masks = handed.masks;
+    let mask = mask_among(masks, arm.link_count, link as usize);
     lower(
         unless((link as usize) < arm.link_count, 4),
         lower(
             unless(is_axis(axis), 5),
             lower(
                 unless(axis_is_free(mask, axis), 6),
-                lower(unless(finite(value), 7), arm_refusal(arm)),
+                lower(unless(finite(value), 7), handed.refusal),
             ),
         ),
     )
@@ -65,10 +70,12 @@ fn with_entry(row: Row, at: usize, value: f32) -> Row
 pub fn write_row(arm: Arm, name: RowName, link: u32, axis: u32, value: f32) -> Edited
     ensures { λ r. ⌜ r ≡ rowWritten arm name link axis value ⌝ }
 {
-    let refusal = write_refusal(arm, link, axis, value);
+    let handed = handed_in(arm);
+    let refusal = write_refusal(arm, handed, link, axis, value);
     let mut new = arm;
     if refusal == 0 {
-        let at = dof_at(arm, link as usize, axis as u8);
+        let masks = handed.masks;
+        let at = dof_among(masks, arm.link_count, link as usize, axis as u8);
         let k = arm::row_number(name);
         let row = new.rows[k];
         new.rows[k] = with_entry(row, at, value);

@@ -19,18 +19,18 @@ use Rattle.kinematics.proofs.Laid.{laid-same, laid-block, laid-length}
 use Rattle.kinematics.proofs.Turns.{tables-after, new-size}
 use Rattle.kinematics.proofs.Same.{worked-marks, every-links, every-fine, every-tables}
 
-abbrev zeros : List Float
+abbrev pub zeros : List Float
 zeros = replicate tableSize zero32
 
-zeros-length : length zeros ≡ tableSize
+pub zeros-length : length zeros ≡ tableSize
 zeros-length = length-replicate tableSize zero32
 
 module _ (f : Bool) (s : State) (ls : List Link) (t : List Float) where
-  passed-no : f ≡ false → out (record { fine = false; links = ls }) t ≡ passed f s ls t
+  pub passed-no : f ≡ false → out (record { fine = false; links = ls }) t ≡ passed f s ls t
   unfolding passed
   passed-no h = rw h
 
-  passed-yes : f ≡ true → (r : Refreshed) (m : List Float) → r .fine ≡ true → r .links ≡ s .links → m ≡ s .tables → out r m ≡ passed f s ls t
+  pub passed-yes : f ≡ true → (r : Refreshed) (m : List Float) → r .fine ≡ true → r .links ≡ s .links → m ≡ s .tables → out r m ≡ passed f s ls t
   unfolding passed
   passed-yes h r m p q e = rw h (λ i. out (record { fine = p i; links = q i }) (e i))
 
@@ -43,6 +43,11 @@ module _ (ls : List Link) (count : ℕ) (t : List Float) where
   unfolding refreshAll
   all-short h = passed-no _ _ ls t (rw (lt-leb tableSize (length t) h))
 
+  pub is-marked : (b : ℕ → Bool) (n : ℕ) → n ≡ min count linkLimit → tableSize ≤ length t
+      → passed (fineAfter ls n b t) (stateAfter ls n b t) ls t ≡ refreshMarked ls count b t
+  unfolding refreshMarked
+  is-marked b n e long = rw (e, le-leb tableSize (length t) long)
+
   module _ (sized : length ls ≡ linkLimit) (long : tableSize ≤ length t) (n : ℕ) (e : n ≡ min count linkLimit) (work : List Float) (r : Refreshed) where
     fit : n ≤ linkLimit
     fit = omega arith
@@ -53,12 +58,8 @@ module _ (ls : List Link) (count : ℕ) (t : List Float) where
     -- ---- the marked links
 
     module _ (b : ℕ → Bool) (k : WorkedOut ls n b t zeros work (r .links) (r .fine)) where
-      is-marked : passed (fineAfter ls n b t) (stateAfter ls n b t) ls t ≡ refreshMarked ls count b t
-      unfolding refreshMarked
-      is-marked = rw (e, le-leb tableSize (length t) long)
-
       pub marked-no : r .fine ≡ false → out (record { fine = false; links = ls }) t ≡ refreshMarked ls count b t
-      marked-no h = passed-no _ _ ls t (sym (k .test) ∙ h) ∙ is-marked
+      marked-no h = passed-no _ _ ls t (sym (k .test) ∙ h) ∙ is-marked b n e long
 
       -- the blocks that are written back are those that the pass leaves
       committed : laid b (blocksOf work) n t ≡ stateAfter ls n b t .tables
@@ -70,7 +71,7 @@ module _ (ls : List Link) (count : ℕ) (t : List Float) where
           ∙ sym (tables-after ls b t n)
 
       pub marked-yes : r .fine ≡ true → (m : List Float) → m ≡ laid b (blocksOf work) n t → out r m ≡ refreshMarked ls count b t
-      marked-yes h m q = passed-yes _ _ ls t (sym (k .test) ∙ h) r m h (k .refreshed) (q ∙ committed) ∙ is-marked
+      marked-yes h m q = passed-yes _ _ ls t (sym (k .test) ∙ h) r m h (k .refreshed) (q ∙ committed) ∙ is-marked b n e long
 
     -- ---- all links
 

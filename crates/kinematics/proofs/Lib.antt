@@ -7,5 +7,6 @@ pub mod Store
 pub mod Turns
 pub mod Same
 pub mod Ends
+pub mod One
 pub mod Promises
 pub mod Columns

@@ -192,7 +192,7 @@ module _ (ls : List Link) (n : ℕ) (fit : n ≤ linkLimit) (sized : length ls �
         (ec ∙ ap₂ (λ (m : Bool) (k : ℕ). copiedFrom m (b k) (k * blockSize) t work) m e ∙ above-block par q)
         at-start at-joint turn
 
-    turned : Turn (linkAt ls j) link own fine (newOf ls b t j)
+    pub turned : Turn (linkAt ls j) link own fine (newOf ls b t j)
     turned = elim (decLt par j) [
       | yes q ↦
           let e : p ≡ par = omega (arith, own-parent) in

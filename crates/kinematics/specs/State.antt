@@ -3,6 +3,7 @@ use mathlib.Core.Path.{_≡_}
 use Prim.Native.Nat.{ℕ, zero, suc}
 use mathlib.Core.Bool.{Bool, true, false, cond}
 use mathlib.Core.List.{List, [], _++_, map}
+use lib.Dec.{eqb}
 use lib.ListN.{getD, set, drop, replicate}
 use lib.Ieee.{Float, nan}
 use Rattle.limits.specs.Limits.{tableSize}
@@ -72,6 +73,10 @@ marked marks j = getD marks j false
 
 abbrev pub every : ℕ → Bool
 every j = true
+
+-- link j alone
+abbrev pub only : ℕ → ℕ → Bool
+only j k = eqb k j
 
 -- link j's results by what a state keeps of its parent, its inputs being those of the links ls
 abbrev pub resultOf : List Link → State → ℕ → Kept

@@ -1,13 +1,16 @@
 // Kinematics: a link's world pose, shifts and Jacobian block from what is kept of its parent, and the pass that refreshes marked links.
 // Poses and shifts are kept in the links, Jacobian blocks in lent tables.
 ghost use mathlib.Core.Path.{_≡_};
+ghost use mathlib.Core.Bool.{cond};
+ghost use mathlib.Core.List.{map};
 ghost use Prim.Native.Nat.{min, _+_, _*_, _≤_, _<_};
 ghost use lib.Dec.{ltb};
 ghost use lib.ListN.{length};
 ghost use Rattle.limits.specs.Limits.{linkLimit, dofLimit, blockSize, tableSize};
-ghost use Rattle.kinematics.specs.Blocks.{part, withPart, withBlock, shifted, columnAdded, axisAdded, ownAdded, copiedFrom};
+ghost use Rattle.masks.specs.Starts.{startOf};
+ghost use Rattle.kinematics.specs.Blocks.{part, withPart, blockAt, withBlock, zeroBlock, shifted, columnAdded, axisAdded, ownAdded, copiedFrom};
 ghost use Rattle.kinematics.specs.Link.{rootPosed, laterPosed, posedOf, blockFrom, withPlace, finitePlace, TurnedTo};
-ghost use Rattle.kinematics.specs.State.{marked, blocksOf, laid, WorkedOut};
+ghost use Rattle.kinematics.specs.State.{lockedOf, marked, only, blocksOf, laid, WorkedOut};
 ghost use Rattle.kinematics.specs.Answers.{out, refreshMarked, refreshAll};
 use arm::Link;
 use floats::all_finite;
@@ -310,6 +313,73 @@ pub fn refresh_marked(
     }
     commit(marks, count, &work, tables);
     r
+}
+
+// The DoFs of the links before link j.
+fn start_of(links: [Link; LINKS], j: usize) -> usize
+    requires { ⌜ j ≤ linkLimit ⌝ }
+    ensures { λ r. ⌜ r ≡ startOf (map lockedOf links) j ⌝ }
+{
+    let mut start: usize = 0;
+    let mut i: usize = 0;
+    while i < j {
+        let l = links[i];
+        start += dofs(l.joint.locked);
+        i += 1;
+    }
+    start
+}
+
+// A block of zeros takes the one that the tables keep of link p, if that is what is copied.
+fn copy_kept(block: &mut [f32], tables: &[f32], p: usize, later: bool)
+    requires { ⌜ (now block ≡ zeroBlock) × (p < linkLimit) × (tableSize ≤ length (now tables)) ⌝ }
+    ensures { λ _. ⌜ now (block .exit) ≡ cond later (blockAt p (now (tables .entry))) zeroBlock ⌝ }
+{
+    if later {
+        let from = p * BLOCK;
+        let end = from + BLOCK;
+        copy(block, &tables[from..end]);
+    }
+}
+
+// Link j's block goes into the tables.
+fn put_block(tables: &mut [f32], block: &[f32], j: usize)
+    requires { ⌜ (length (now block) ≡ blockSize) × (j < linkLimit) × (tableSize ≤ length (now tables)) ⌝ }
+    ensures { λ _. ⌜ now (tables .exit) ≡ withBlock j (now (block .entry)) (now (tables .entry)) ⌝ }
+{
+    let at = j * BLOCK;
+    let end = at + BLOCK;
+    copy(&mut tables[at..end], block);
+}
+
+// Link j alone, if it is one of the first n: what `refresh_marked` does of a single mark, without a work area for all links.
+pub fn refresh_one(links: [Link; LINKS], n: usize, j: usize, tables: &mut [f32]) -> Refreshed
+    ensures { λ r. ⌜ out r (now (tables .exit)) ≡ refreshMarked links n (only j) (now (tables .entry)) ⌝ }
+{
+    if tables.len() < TABLES {
+        return Refreshed { fine: false, links };
+    }
+    if fewer(n, LINKS) <= j {
+        return Refreshed { fine: true, links };
+    }
+    let l = links[j];
+    let p = fewer(l.parent as usize, j);
+    let above = links[p];
+    let mut block = [0.0f32; BLOCK];
+    copy_kept(&mut block, tables, p, p < j);
+    let start = start_of(links, j);
+    let t = refresh_link(l, above, p < j, start, &mut block);
+    if !t.fine {
+        return Refreshed { fine: false, links };
+    }
+    put_block(tables, &block, j);
+    let link = t.link;
+    let mut new = links;
+    new[j] = link;
+    Refreshed {
+        fine: true,
+        links: new,
+    }
 }
 
 // The first n links are worked out, rising, and all of the tables are rewritten, with +0 in unused places. Links and tables stay as they were

@@ -1,6 +1,6 @@
 -- The one-link move: what it refuses, what it answers, and what the tables then hold.
 use Prim.Native.Nat.{ℕ}
-use mathlib.Core.Bool.{Bool, true, not, _&&_}
+use mathlib.Core.Bool.{Bool, true, not, _&&_, _||_}
 use mathlib.Core.List.{List, [], _∷_}
 use lib.Dec.{eqb, ltb}
 use lib.Ieee.{Float}
@@ -13,7 +13,9 @@ use Rattle.topology.specs.Parents.{parentOf, marks}
 use Rattle.arm.specs.declared.Arm.{Arm}
 use Rattle.arm.specs.Arm.{parentsOf, maskAt}
 use Rattle.arm.specs.HandedIn.{armRefusal}
-use Rattle.kinematics.specs.State.{marked}
+use Rattle.limits.specs.Limits.{linkLimit}
+use Rattle.kinematics.specs.Pass.{allTo}
+use Rattle.kinematics.specs.State.{marked, only}
 use Rattle.working.specs.Outcome.{Outcome, unlessRefused, tablesFit, workedMarked}
 use Rattle.settled.specs.Above.{aboveFinite}
 use Rattle.one_link_move.specs.declared.Change.{Change}
@@ -77,6 +79,10 @@ moveRefusal a t link change =
     ∷ unlessOf (angleWithin change) 9
     ∷ armRefusal a
     ∷ [])
+
+-- a link is marked, and no other: none is below it
+abbrev pub alone : ℕ → (ℕ → Bool) → Bool
+alone link b = ltb link linkLimit && allTo linkLimit (λ j. (b j && only link j) || (not (b j) && not (only link j)))
 
 -- the link and those below it, rising, over what is kept
 unfoldable pub linkMoved : Arm → List Float → ℕ → Change → Outcome

@@ -2,18 +2,22 @@
 // kept of its parent.
 ghost use mathlib.Core.Path.{_≡_};
 ghost use Rattle.masks.specs.Masks.{isFree};
+ghost use Prim.Native.Nat.{min};
 ghost use lib.ListN.{take};
-ghost use Rattle.arm.specs.Arm.{liveLinks, parentsOf};
+ghost use Rattle.limits.specs.Limits.{linkLimit};
+ghost use Rattle.arm.specs.HandedIn.{handedIn};
+ghost use Rattle.kinematics.specs.State.{marked};
 ghost use Rattle.topology.specs.Parents.{parentOf, marks};
 ghost use Rattle.working.specs.Outcome.{out};
 ghost use Rattle.one_link_move.specs.Change.{coordinateSet, changed, movedInputs};
-ghost use Rattle.one_link_move.specs.Move.{testsOf, moveRefusal, linkMoved};
+ghost use Rattle.one_link_move.specs.Move.{testsOf, moveRefusal, alone, linkMoved};
 use arm::Arm;
 use arm::Edited;
+use arm::HandedIn;
 use arm::Link;
-use arm::arm_refusal;
+use arm::handed_in;
 use arm::live_links;
-use arm::mask_at;
+use arm::mask_among;
 use floats::finite;
 use limits::LINKS;
 use masks::is_axis;
@@ -33,6 +37,7 @@ use settled::is_finite_above;
 use topology::at_or_below;
 use working::tables_fit;
 use working::work_marked;
+use working::work_one;
 
 // What a move sets.
 pub enum Change {
@@ -90,23 +95,26 @@ fn change_tests(locked: u8, change: Change) -> ChangeTests
 
 // ---- What it refuses
 
-fn parent_at(arm: Arm, link: usize) -> u8
-    ensures { λ r. ⌜ r ≡ parentOf (parentsOf arm) link ⌝ }
+fn parent_among(parents: [u8; LINKS], count: usize, link: usize) -> u8
+    ensures { λ r. ⌜ r ≡ parentOf (take (min count linkLimit) parents) link ⌝ }
 {
-    if link < live_links(arm.link_count) {
-        let links = arm.links;
-        let l = links[link];
-        return l.parent;
+    if link < live_links(count) {
+        parents[link]
+    } else {
+        0
     }
-    0
 }
 
-fn move_refusal(arm: Arm, tables: &[f32], link: u32, change: Change) -> u8
+fn move_refusal(arm: Arm, handed: HandedIn, tables: &[f32], link: u32, change: Change) -> u8
+    requires { ⌜ handed ≡ handedIn arm ⌝ }
     ensures { λ r. ⌜ r ≡ moveRefusal arm (now (tables .entry)) link change ⌝ }
 {
     let at = link as usize;
-    let tests = change_tests(mask_at(arm, at), change);
-    let above = is_finite_above(at, parent_at(arm, at) as u32, tables);
+    let masks = handed.masks;
+    let parents = handed.parents;
+    let tests = change_tests(mask_among(masks, arm.link_count, at), change);
+    let parent = parent_among(parents, arm.link_count, at);
+    let above = is_finite_above(at, parent as u32, tables);
     lower(
         unless(tables_fit(tables), 1),
         lower(
@@ -119,7 +127,7 @@ fn move_refusal(arm: Arm, tables: &[f32], link: u32, change: Change) -> u8
                         unless(tests.floats & above, 7),
                         lower(
                             unless(tests.turns, 8),
-                            lower(unless(tests.angle, 9), arm_refusal(arm)),
+                            lower(unless(tests.angle, 9), handed.refusal),
                         ),
                     ),
                 ),
@@ -188,41 +196,43 @@ fn with_moved(arm: Arm, link: usize, change: Change) -> Arm
 
 // ---- The move
 
-// The parents of the links that count.
-fn live_parents(arm: Arm) -> [u8; LINKS]
-    ensures { λ r. ⌜ take (liveLinks arm) r ≡ parentsOf arm ⌝ }
+// The link and those below it, by the parents of as many links as count.
+fn marks_among(parents: [u8; LINKS], count: usize, link: usize) -> [bool; LINKS]
+    ensures { λ r. ⌜ r ≡ marks (take (min count linkLimit) parents) link ⌝ }
 {
-    let n = live_links(arm.link_count);
-    let links = arm.links;
-    let mut parents = [0u8; LINKS];
-    let mut i = 0;
-    while i < n {
-        let l = links[i];
-        parents[i] = l.parent;
-        i += 1;
-    }
-    parents
+    let n = live_links(count);
+    at_or_below(&parents[0..n], link)
 }
 
-// The link and those below it.
-fn marks_of(arm: Arm, link: usize) -> [bool; LINKS]
-    ensures { λ r. ⌜ r ≡ marks (parentsOf arm) link ⌝ }
+// Is the link marked, and no other?
+fn is_alone(marks: [bool; LINKS], link: usize) -> bool
+    ensures { λ r. ⌜ r ≡ alone link (marked marks) ⌝ }
 {
-    let n = live_links(arm.link_count);
-    let parents = live_parents(arm);
-    at_or_below(&parents[0..n], link)
+    let mut ok = link < LINKS;
+    let mut i = 0;
+    while i < LINKS {
+        let own = i == link;
+        ok = ok & ((marks[i] & own) | (!marks[i] & !own));
+        i += 1;
+    }
+    ok
 }
 
 // One link's inputs are changed, and it and the links below it are worked out, rising; nothing else is touched.
 pub fn move_link(arm: Arm, tables: &mut [f32], link: u32, change: Change) -> Edited
     ensures { λ e. ⌜ out e (now (tables .exit)) ≡ linkMoved arm (now (tables .entry)) link change ⌝ }
 {
-    let refusal = move_refusal(arm, tables, link, change);
+    let handed = handed_in(arm);
+    let refusal = move_refusal(arm, handed, tables, link, change);
     if refusal != 0 {
         return Edited { refusal, arm };
     }
     let at = link as usize;
-    let marks = marks_of(arm, at);
+    let parents = handed.parents;
+    let marks = marks_among(parents, arm.link_count, at);
     let moved = with_moved(arm, at, change);
+    if is_alone(marks, at) {
+        return work_one(arm, moved, at, tables);
+    }
     work_marked(arm, moved, marks, tables)
 }

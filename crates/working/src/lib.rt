@@ -3,7 +3,7 @@ ghost use mathlib.Core.Path.{_≡_};
 ghost use Rattle.working.specs.Outcome.{out, tablesFit, workedBy, workedAll, workedMarked};
 ghost use Rattle.working.specs.Full.{fullRefusal, fullWorking};
 ghost use Rattle.working.specs.Empty.{zeroPoint, blankLink, emptyArm, emptied};
-ghost use Rattle.kinematics.specs.State.{marked};
+ghost use Rattle.kinematics.specs.State.{marked, only};
 use arm::Arm;
 use arm::Coupling;
 use arm::Edited;
@@ -14,6 +14,7 @@ use floats::copy;
 use kinematics::Refreshed;
 use kinematics::refresh_all;
 use kinematics::refresh_marked;
+use kinematics::refresh_one;
 use limits::COUPLINGS;
 use limits::DOFS;
 use limits::LINKS;
@@ -57,6 +58,15 @@ pub fn work_marked(old: Arm, new: Arm, marks: [bool; LINKS], tables: &mut [f32])
 {
     let links = new.links;
     let r = refresh_marked(links, new.link_count, marks, tables);
+    worked(old, new, r)
+}
+
+// One link of the new arm is worked out from what is kept of its parent; 12 leaves the old arm and the tables.
+pub fn work_one(old: Arm, new: Arm, link: usize, tables: &mut [f32]) -> Edited
+    ensures { λ e. ⌜ out e (now (tables .exit)) ≡ workedMarked old new (only link) (now (tables .entry)) ⌝ }
+{
+    let links = new.links;
+    let r = refresh_one(links, new.link_count, link, tables);
     worked(old, new, r)
 }
 

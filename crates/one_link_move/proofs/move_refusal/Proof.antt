@@ -2,6 +2,10 @@
 use Prim.Native.Nat.{ℕ}
 use mathlib.Core.Path.{ap, ap₂, _∙_}
 use mathlib.Core.Bool.{_&&_}
+use mathlib.Core.List.{List}
+use Rattle.topology.specs.Parents.{parentOf}
+use Rattle.arm.proofs.Shape.{links-length}
+use Rattle.arm.proofs.Handed.{found-refusal, found-parents, found-mask}
 use Rattle.settled.specs.Above.{aboveFinite}
 use Rattle.one_link_move.specs.declared.ChangeTests.{ChangeTests}
 use Rattle.settled.proofs.Lowest.{lowered, tested}
@@ -10,14 +14,14 @@ use borrow.Author.Needs.{needs}
 use Rattle.one_link_move.proofs.move_refusal.Statement.{statement}
 use Rattle.one_link_move.proofs.move_refusal.Tie as tie
 
-mask-at-requires : tie.Need-mask-at-requires
-mask-at-requires c κs = search needs
+mask-among-requires : tie.Need-mask-among-requires
+mask-among-requires c κs = search needs
 
 change-tests-requires : tie.Need-change-tests-requires
 change-tests-requires c κs = search needs
 
-parent-at-requires : tie.Need-parent-at-requires
-parent-at-requires c κs = search needs
+parent-among-requires : tie.Need-parent-among-requires
+parent-among-requires c κs = search needs
 
 cast-is-finite-above : tie.Need-cast-is-finite-above
 cast-is-finite-above c = search needs
@@ -49,9 +53,6 @@ unless-requires-6 c κs = search needs
 unless-requires-7 : tie.Need-unless-requires-7
 unless-requires-7 c κs = search needs
 
-arm-refusal-requires : tie.Need-arm-refusal-requires
-arm-refusal-requires c κs = search needs
-
 lower-requires : tie.Need-lower-requires
 lower-requires c κs = search needs
 
@@ -76,24 +77,27 @@ lower-requires-7 c κs = search needs
 returns : tie.Need-returns
 unfolding moveRefusal testsOf
 returns c =
-    let link = c .before .before .before .before .before .before .before .before .before .before .before .before .before .before .before .before .before .before .before .before .before .before .before .args .link in
-    let t = c .before .before .before .before .before .before .before .before .before .before .before .before .before .before .before .before .before .before .before .before .change-tests .ensures ∙ ap (λ (m : ℕ). testsOf m (c .before .before .before .before .before .before .before .before .before .before .before .before .before .before .before .before .before .before .before .before .before .before .before .args .change)) (c .before .before .before .before .before .before .before .before .before .before .before .before .before .before .before .before .before .before .before .before .before .mask-at .ensures) in
-    let above = c .before .before .before .before .before .before .before .before .before .before .before .before .before .before .before .before .before .before .is-finite-above .ensures ∙ ap (λ (p : ℕ). aboveFinite link p (c .before .before .before .before .before .before .before .before .before .before .before .before .before .before .before .before .before .before .before .before .before .before .before .args .tables .now)) (c .before .before .before .before .before .before .before .before .before .before .before .before .before .before .before .before .before .before .before .parent-at .ensures) in
-    lowered (c .lower7 .ensures) (c .before .before .before .before .before .before .before .before .before .before .before .before .before .before .before .before .unless .ensures ∙ tested 1 (c .before .before .before .before .before .before .before .before .before .before .before .before .before .before .before .before .before .tables-fit .ensures))
-    (lowered (c .before .lower6 .ensures) (c .before .before .before .before .before .before .before .before .before .before .before .before .before .before .unless2 .ensures)
-    (lowered (c .before .before .lower5 .ensures) (c .before .before .before .before .before .before .before .before .before .before .before .before .before .unless3 .ensures ∙ tested 5 (ap (λ (y : ChangeTests). y .axis) t))
-    (lowered (c .before .before .before .lower4 .ensures) (c .before .before .before .before .before .before .before .before .before .before .before .before .unless4 .ensures ∙ tested 6 (ap (λ (y : ChangeTests). y .free) t))
-    (lowered (c .before .before .before .before .lower3 .ensures) (c .before .before .before .before .before .before .before .before .before .before .unless5 .ensures ∙ tested 7 (ap₂ _&&_ (ap (λ (y : ChangeTests). y .floats) t) above))
-    (lowered (c .before .before .before .before .before .lower2 .ensures) (c .before .before .before .before .before .before .before .before .before .unless6 .ensures ∙ tested 8 (ap (λ (y : ChangeTests). y .turns) t))
-    (lowered (c .before .before .before .before .before .before .lower .ensures) (c .before .before .before .before .before .before .before .before .unless7 .ensures ∙ tested 9 (ap (λ (y : ChangeTests). y .angle) t)) (c .before .before .before .before .before .before .before .arm-refusal .ensures)))))))
+    let a = c .before .before .before .before .before .before .before .before .before .before .before .before .before .before .before .before .before .before .before .before .before .before .before .before .args .arm in
+    let h = c .before .before .before .before .before .before .before .before .before .before .before .before .before .before .before .before .before .before .before .before .before .before .before .before .args .handed in
+    let w = links-length a (c .before .before .before .before .before .before .before .before .before .before .before .before .before .before .before .before .before .before .before .before .before .before .before .before .good .0) in
+    let t = c .before .before .before .before .before .before .before .before .before .before .before .before .before .before .before .before .before .before .before .change-tests .ensures ∙ ap (λ (m : ℕ). testsOf m (c .before .before .before .before .before .before .before .before .before .before .before .before .before .before .before .before .before .before .before .before .before .before .before .before .args .change)) (c .before .before .before .before .before .before .before .before .before .before .before .before .before .before .before .before .before .before .before .before .mask-among .ensures ∙ found-mask a w h (c .before .before .before .before .before .before .before .before .before .before .before .before .before .before .before .before .before .before .before .before .before .before .before .before .pre) (c .before .before .before .before .before .before .before .before .before .before .before .before .before .before .before .before .before .before .before .before .before .before .before .before .args .link)) in
+    let p = c .before .before .before .before .before .before .before .before .before .before .before .before .before .before .before .before .before .before .parent-among .ensures ∙ ap (λ (ps : List ℕ). parentOf ps (c .before .before .before .before .before .before .before .before .before .before .before .before .before .before .before .before .before .before .before .before .before .before .before .before .args .link)) (found-parents a w h (c .before .before .before .before .before .before .before .before .before .before .before .before .before .before .before .before .before .before .before .before .before .before .before .before .pre)) in
+    let above = c .before .before .before .before .before .before .before .before .before .before .before .before .before .before .before .before .before .is-finite-above .ensures ∙ ap (λ (k : ℕ). aboveFinite (c .before .before .before .before .before .before .before .before .before .before .before .before .before .before .before .before .before .before .before .before .before .before .before .before .args .link) k (c .before .before .before .before .before .before .before .before .before .before .before .before .before .before .before .before .before .before .before .before .before .before .before .before .args .tables .now)) p in
+    lowered (c .lower7 .ensures) (c .before .before .before .before .before .before .before .before .before .before .before .before .before .before .before .unless .ensures ∙ tested 1 (c .before .before .before .before .before .before .before .before .before .before .before .before .before .before .before .before .tables-fit .ensures))
+    (lowered (c .before .lower6 .ensures) (c .before .before .before .before .before .before .before .before .before .before .before .before .before .unless2 .ensures)
+    (lowered (c .before .before .lower5 .ensures) (c .before .before .before .before .before .before .before .before .before .before .before .before .unless3 .ensures ∙ tested 5 (ap (λ (y : ChangeTests). y .axis) t))
+    (lowered (c .before .before .before .lower4 .ensures) (c .before .before .before .before .before .before .before .before .before .before .before .unless4 .ensures ∙ tested 6 (ap (λ (y : ChangeTests). y .free) t))
+    (lowered (c .before .before .before .before .lower3 .ensures) (c .before .before .before .before .before .before .before .before .before .unless5 .ensures ∙ tested 7 (ap₂ _&&_ (ap (λ (y : ChangeTests). y .floats) t) above))
+    (lowered (c .before .before .before .before .before .lower2 .ensures) (c .before .before .before .before .before .before .before .before .unless6 .ensures ∙ tested 8 (ap (λ (y : ChangeTests). y .turns) t))
+    (lowered (c .before .before .before .before .before .before .lower .ensures) (c .before .before .before .before .before .before .before .unless7 .ensures ∙ tested 9 (ap (λ (y : ChangeTests). y .angle) t)) (found-refusal a w h (c .before .before .before .before .before .before .before .before .before .before .before .before .before .before .before .before .before .before .before .before .before .before .before .before .pre))))))))
 
 pub move-refusal-spec : {M : Type 1} → statement M
 move-refusal-spec =
     tie.close
     (tie.spec
-    mask-at-requires
+    mask-among-requires
     change-tests-requires
-    parent-at-requires
+    parent-among-requires
     cast-is-finite-above
     is-finite-above-requires
     tables-fit-requires
@@ -104,7 +108,6 @@ move-refusal-spec =
     unless-requires-5
     unless-requires-6
     unless-requires-7
-    arm-refusal-requires
     lower-requires
     lower-requires-2
     lower-requires-3

@@ -1,18 +1,15 @@
--- `marks_of`: the marks of the parents that count. Assumes nothing.
-use mathlib.Core.Path.{refl, ap, _∙_}
+-- `marks_among`: the marks of the front. Assumes nothing.
 use mathlib.Core.List.{List}
+use mathlib.Core.Path.{_∙_, ap, refl}
 use Prim.Native.Nat.{ℕ}
 use Rattle.topology.specs.Parents.{marks}
 use Rattle.arm.proofs.Lists.{front}
 use borrow.Author.Needs.{needs}
-use Rattle.one_link_move.proofs.marks_of.Statement.{statement}
-use Rattle.one_link_move.proofs.marks_of.Tie as tie
+use Rattle.one_link_move.proofs.marks_among.Statement.{statement}
+use Rattle.one_link_move.proofs.marks_among.Tie as tie
 
 live-links-requires : tie.Need-live-links-requires
 live-links-requires c κs = search needs
-
-live-parents-requires : tie.Need-live-parents-requires
-live-parents-requires c κs = search needs
 
 sub-at-or-below : tie.Need-sub-at-or-below
 sub-at-or-below c = search needs
@@ -27,14 +24,13 @@ at-or-below-requires : tie.Need-at-or-below-requires
 at-or-below-requires c κs = search needs
 
 returns : tie.Need-returns
-returns c = c .at-or-below .ensures ∙ ap (λ (ps : List ℕ). marks ps (c .before .before .before .before .before .args .link)) (front _ _ (c .before .before .before .before .live-links .ensures) refl ∙ c .before .before .before .live-parents .ensures)
+returns c = c .at-or-below .ensures ∙ ap (λ (ps : List ℕ). marks ps (c .before .before .before .before .args .link)) (front _ _ (c .before .before .before .live-links .ensures) refl)
 
-pub marks-of-spec : {M : Type 1} → statement M
-marks-of-spec =
+pub marks-among-spec : {M : Type 1} → statement M
+marks-among-spec =
     tie.close
     (tie.spec
     live-links-requires
-    live-parents-requires
     sub-at-or-below
     part-at-or-below-start
     part-at-or-below-end
