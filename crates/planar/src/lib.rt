@@ -1,6 +1,8 @@
 // The plane in f32: the rotation of an angle, and poses.
 ghost use mathlib.Core.Path.{_≡_};
-ghost use Rattle.planar.specs.Rotation.{quarterTurns, magnitudeOf, reducedBy, sineOf, cosineOf, quarterPair, signedBy, rotationAt, isBeyond, rotationRefusal, rotated};
+ghost use Prim.Native.Nat.{_≤_, _<_};
+ghost use lib.Ieee.{le};
+ghost use Rattle.planar.specs.Rotation.{threshold, quarterTurns, magnitudeOf, reducedBy, sineOf, cosineOf, quarterPair, signedBy, rotationAt, isBeyond, rotationRefusal, rotated};
 ghost use Rattle.planar.specs.Poses.{rotationOf, translationOf, posed, identityPose, rotationProduct, turnedBy, placedBy, pointDifference, poseProduct, poseInverse, isTurn, finiteRotation, finitePoint, finitePose};
 use floats::finite;
 use refusal::lower;
@@ -29,17 +31,40 @@ pub struct Pose {
 
 // ---- The rotation of an angle
 
-// How many of the 163 thresholds, odd eighths of a turn, are at most a.
+// Is the j-th threshold, an odd eighth of a turn, at most a?
+fn is_passed(j: u16, a: f32) -> bool
+    requires { ⌜ (0 < j) × (j ≤ 163) ⌝ }
+    ensures { λ r. ⌜ r ≡ le (threshold j) a ⌝ }
+{
+    ((2 * j - 1) as f32) * 0.7853982 <= a
+}
+
+// As many of the 163 thresholds as are passed by sixteens.
+fn sixteens(a: f32) -> u16
+    ensures { λ r. ⌜ r ≤ quarterTurns a ⌝ }
+{
+    let mut k: u16 = 0;
+    while k <= 147 {
+        if !is_passed(k + 16, a) {
+            return k;
+        }
+        k += 16;
+    }
+    k
+}
+
+// How many of the 163 thresholds are at most a. They rise: the first one above it ends the count.
 fn quarter_turns(a: f32) -> usize
     ensures { λ r. ⌜ r ≡ quarterTurns a ⌝ }
 {
-    let mut k: usize = 0;
-    for j in 1u16..=163 {
-        if ((2 * j - 1) as f32) * 0.7853982 <= a {
-            k += 1;
+    let mut k = sixteens(a);
+    while k < 163 {
+        if !is_passed(k + 1, a) {
+            return k as usize;
         }
+        k += 1;
     }
-    k
+    k as usize
 }
 
 fn magnitude(angle: f32) -> f32

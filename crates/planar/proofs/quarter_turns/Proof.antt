@@ -1,58 +1,56 @@
--- `quarter_turns`: before turn j the count is that of the thresholds below j. Assumes nothing.
-use Prim.Native.Nat.{ℕ, _≤_, _-_, _<_}
+-- `quarter_turns`: what is passed is counted, and the first threshold that isn't ends the count. Assumes nothing.
+use Prim.Native.Nat.{_+_, _-_, _≤_}
 use native.Mathlib.Omega.{arith}
-use mathlib.Core.Path.{_≡_, refl, sym, ap, _∙_}
-use mathlib.Core.Logic.{⊎-elim}
+use mathlib.Core.Path.{sym, _∙_}
+use borrow.Author.Tests.{not-false, not-true}
+use Rattle.planar.specs.Rotation.{quarterTurns}
+use Rattle.planar.proofs.Turns.{at-least, at-most, turns-le}
 use borrow.Author.Needs.{needs}
-use Rattle.planar.specs.Rotation.{threshold, countTo, quarterTurns}
-use Rattle.planar.proofs.Turns.{counted, passed}
 use Rattle.planar.proofs.quarter_turns.Statement.{statement}
 use Rattle.planar.proofs.quarter_turns.Tie as tie
 
 abbrev Inv-loop : tie.InvT-loop
-Inv-loop a k₀ j₀ k j = (0 < j) × (j ≤ 164) × (k < j) × (k ≡ countTo (j - 1) a)
+Inv-loop a k₀ k = (k ≤ 163) × (k ≤ quarterTurns a)
 
 abbrev μ-loop : tie.MeasureT-loop
-μ-loop a k₀ j₀ k j = 164 - j
+μ-loop a k₀ k = 163 - k
+
+sixteens-requires : tie.Need-sixteens-requires Inv-loop μ-loop
+sixteens-requires c κs = search needs
 
 loop-holds : tie.Need-loop-holds Inv-loop μ-loop
-unfolding countTo
-loop-holds c = search needs
+loop-holds c = omega (arith, c .sixteens .ensures, turns-le (c .before .args .a))
 
-mul-if1 : tie.Need-mul-if1 Inv-loop μ-loop
-mul-if1 c = omega arith
+add-is-passed : tie.Need-add-is-passed Inv-loop μ-loop
+add-is-passed c = search needs
 
-sub-if1 : tie.Need-sub-if1 Inv-loop μ-loop
-sub-if1 c = omega arith
+is-passed-requires : tie.Need-is-passed-requires Inv-loop μ-loop
+is-passed-requires c κs = omega arith
 
-int-to-float-if1 : tie.Need-int-to-float-if1 Inv-loop μ-loop
-int-to-float-if1 c = search needs
-
-add-k : tie.Need-add-k Inv-loop μ-loop
-add-k c = omega arith
-
-add-j : tie.Need-add-j Inv-loop μ-loop
-add-j c = omega arith
-
-loop-less : tie.Need-loop-less Inv-loop μ-loop
-loop-less c = omega arith
-
-loop-again : tie.Need-loop-again Inv-loop μ-loop
-unfolding threshold
-loop-again c =
-    let k = c .before .before .before .loop in
-    let j = k .j in
-    let a = c .before .before .before .before .args .a in
-    ⊎-elim
-    (λ w. let m = counted j a (omega arith) (w .0 .taken) in (omega arith, omega arith, omega arith, omega arith))
-    (λ w. let m = passed j a (omega arith) (w .0 .left) in (omega arith, omega arith, omega arith, omega arith))
-    (c .if1 .came)
+cast-result : tie.Need-cast-result Inv-loop μ-loop
+cast-result c = search needs
 
 returns : tie.Need-returns Inv-loop μ-loop
-unfolding quarterTurns
 returns c =
-    let p : c .before .loop .j - 1 ≡ 163 = omega arith in
-    c .before .loop .inv .3 ∙ ap (λ (n : ℕ). countTo n (c .before .before .args .a)) p
+    let h = at-most (c .before .before .before .before .before .args .a) (c .before .before .before .loop .k + 1) (omega arith) (sym (c .before .is-passed .ensures) ∙ not-true (c .before .is-passed .result) (c .if1 .taken)) in
+    omega arith
+
+add-k : tie.Need-add-k Inv-loop μ-loop
+add-k c = search needs
+
+loop-less : tie.Need-loop-less Inv-loop μ-loop
+loop-less c = search needs
+
+loop-again : tie.Need-loop-again Inv-loop μ-loop
+loop-again c =
+    let h = at-least (c .before .before .before .before .before .args .a) (c .before .before .before .loop .k + 1) (omega arith) (sym (c .before .is-passed .ensures) ∙ not-false (c .before .is-passed .result) (c .if1 .left)) in
+    omega arith
+
+cast-result-2 : tie.Need-cast-result-2 Inv-loop μ-loop
+cast-result-2 c = search needs
+
+returns-2 : tie.Need-returns-2 Inv-loop μ-loop
+returns-2 c = omega (arith, turns-le (c .before .before .before .args .a))
 
 pub quarter-turns-spec : {M : Type 1} → statement M
 quarter-turns-spec =
@@ -60,12 +58,14 @@ quarter-turns-spec =
     (tie.spec
     Inv-loop
     μ-loop
+    sixteens-requires
     loop-holds
-    mul-if1
-    sub-if1
-    int-to-float-if1
+    add-is-passed
+    is-passed-requires
+    cast-result
+    returns
     add-k
-    add-j
     loop-less
     loop-again
-    returns)
+    cast-result-2
+    returns-2)
