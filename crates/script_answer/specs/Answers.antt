@@ -1,13 +1,12 @@
 -- The texts that answers share.
 use Prim.Native.Nat.{ℕ, _+_, _*_, _/_}
-use Prim.Native.String.{String}
 use mathlib.Core.Bool.{cond}
 use mathlib.Core.List.{List}
 use lib.Dec.{eqb}
 use lib.ListN.{length, getD}
 use lib.Ieee.{Float, nan}
 use Rattle.script_write.specs.Writing.{decimalDigits, hexDigits, bitsOf}
-use Rattle.script_answer.specs.Text.{Text, nothing, word, _▸_, bytes, inTurn}
+use Rattle.script_answer.specs.Text.{Text, word, _▸_, bytes, inTurn}
 
 abbrev pub newline : Text
 newline = word (bytes "\n")

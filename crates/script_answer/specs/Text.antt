@@ -22,7 +22,8 @@ unfoldable pub inTurn : ℕ → (ℕ → Text) → Text
 inTurn zero f = nothing
 inTurn (suc n) f = inTurn n f ▸ f n
 
-abbrev pub textAfter : Text → Written → Written
+-- a text, behind what was written before
+unfoldable pub textAfter : Text → Written → Written
 textAfter nothing w = w
 textAfter (word bytes) w = wordWritten w bytes
 textAfter (a ▸ b) w = textAfter b (textAfter a w)

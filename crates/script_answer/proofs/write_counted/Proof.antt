@@ -1,5 +1,6 @@
 -- `write_counted`: the name, and a number. Assumes nothing.
 use borrow.Author.Needs.{needs}
+use Rattle.script_answer.specs.Text.{textAfter}
 use Rattle.script_answer.specs.Answers.{counted}
 use Rattle.script_answer.proofs.write_counted.Statement.{statement}
 use Rattle.script_answer.proofs.write_counted.Tie as tie
@@ -14,7 +15,7 @@ same-length : tie.Need-same-length
 same-length c = search needs
 
 returns : tie.Need-returns
-unfolding counted
+unfolding counted textAfter
 returns c = cc
 
 pub write-counted-spec : {M : Type 1} → statement M

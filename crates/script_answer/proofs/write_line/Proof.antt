@@ -1,5 +1,6 @@
 -- `write_line`: the name with its floats, and a newline. Assumes nothing.
 use borrow.Author.Needs.{needs}
+use Rattle.script_answer.specs.Text.{textAfter}
 use Rattle.script_answer.specs.Answers.{line}
 use Rattle.script_answer.proofs.write_line.Statement.{statement}
 use Rattle.script_answer.proofs.write_line.Tie as tie
@@ -14,7 +15,7 @@ same-length : tie.Need-same-length
 same-length c = search needs
 
 returns : tie.Need-returns
-unfolding line
+unfolding line textAfter
 returns c = cc
 
 pub write-line-spec : {M : Type 1} → statement M

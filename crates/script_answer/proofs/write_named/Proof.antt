@@ -1,5 +1,6 @@
 -- `write_named`: the name, and its floats. Assumes nothing.
 use borrow.Author.Needs.{needs}
+use Rattle.script_answer.specs.Text.{textAfter}
 use Rattle.script_answer.specs.Answers.{named}
 use Rattle.script_answer.proofs.write_named.Statement.{statement}
 use Rattle.script_answer.proofs.write_named.Tie as tie
@@ -14,7 +15,7 @@ same-length : tie.Need-same-length
 same-length c = search needs
 
 returns : tie.Need-returns
-unfolding named
+unfolding named textAfter
 returns c = cc
 
 pub write-named-spec : {M : Type 1} → statement M

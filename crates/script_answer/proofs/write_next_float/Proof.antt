@@ -1,5 +1,6 @@
 -- `write_next_float`: two words. Assumes nothing.
 use borrow.Author.Needs.{needs}
+use Rattle.script_answer.specs.Text.{textAfter}
 use Rattle.script_answer.specs.Answers.{nextFloat}
 use Rattle.script_answer.proofs.write_next_float.Statement.{statement}
 use Rattle.script_answer.proofs.write_next_float.Tie as tie
@@ -14,7 +15,7 @@ same-length : tie.Need-same-length
 same-length c = search needs
 
 returns : tie.Need-returns
-unfolding nextFloat
+unfolding nextFloat textAfter
 returns c = cc
 
 pub write-next-float-spec : {M : Type 1} → statement M

@@ -1,5 +1,6 @@
 -- `write_next_number`: two words. Assumes nothing.
 use borrow.Author.Needs.{needs}
+use Rattle.script_answer.specs.Text.{textAfter}
 use Rattle.script_answer.specs.Answers.{nextNumber}
 use Rattle.script_answer.proofs.write_next_number.Statement.{statement}
 use Rattle.script_answer.proofs.write_next_number.Tie as tie
@@ -14,7 +15,7 @@ same-length : tie.Need-same-length
 same-length c = search needs
 
 returns : tie.Need-returns
-unfolding nextNumber
+unfolding nextNumber textAfter
 returns c = cc
 
 pub write-next-number-spec : {M : Type 1} → statement M

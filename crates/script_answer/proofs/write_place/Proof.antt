@@ -1,5 +1,6 @@
 -- `write_place`: the part, a slash, and the number. Assumes nothing.
 use borrow.Author.Needs.{needs}
+use Rattle.script_answer.specs.Text.{textAfter}
 use Rattle.script_answer.specs.Answers.{place}
 use Rattle.script_answer.proofs.write_place.Statement.{statement}
 use Rattle.script_answer.proofs.write_place.Tie as tie
@@ -17,7 +18,7 @@ same-length : tie.Need-same-length
 same-length c = search needs
 
 returns : tie.Need-returns
-unfolding place
+unfolding place textAfter
 returns c = cc
 
 pub write-place-spec : {M : Type 1} → statement M

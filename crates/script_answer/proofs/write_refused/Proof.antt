@@ -1,5 +1,6 @@
 -- `write_refused`: three words. Assumes nothing.
 use borrow.Author.Needs.{needs}
+use Rattle.script_answer.specs.Text.{textAfter}
 use Rattle.script_answer.specs.Answers.{refused}
 use Rattle.script_answer.proofs.write_refused.Statement.{statement}
 use Rattle.script_answer.proofs.write_refused.Tie as tie
@@ -20,7 +21,7 @@ same-length : tie.Need-same-length
 same-length c = search needs
 
 returns : tie.Need-returns
-unfolding refused
+unfolding refused textAfter
 returns c = cc
 
 pub write-refused-spec : {M : Type 1} → statement M
