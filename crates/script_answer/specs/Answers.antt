@@ -6,7 +6,7 @@ use lib.Dec.{eqb}
 use lib.ListN.{length, getD}
 use lib.Ieee.{Float, nan}
 use Rattle.script_write.specs.Writing.{decimalDigits, hexDigits, bitsOf}
-use Rattle.script_answer.specs.Text.{Text, word, _▸_, bytes, inTurn}
+use Rattle.script_answer.specs.Text.{Text, nothing, word, _▸_, bytes, inTurn}
 
 abbrev pub newline : Text
 newline = word (bytes "\n")
@@ -28,6 +28,10 @@ refused refusal = word (bytes "refused ") ▸ number refusal ▸ newline
 -- `ok`, or the number of the refusal
 unfoldable pub status : ℕ → Text
 status refusal = cond (eqb refusal 0) (word (bytes "ok\n")) (refused refusal)
+
+-- after `ok` the lines
+unfoldable pub answered : ℕ → Text → Text
+answered refusal lines = status refusal ▸ cond (eqb refusal 0) lines nothing
 
 -- an entry of a list has a space before it
 
