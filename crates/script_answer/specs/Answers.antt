@@ -41,28 +41,28 @@ nextNumber n = space ▸ number n
 unfoldable pub nextFloat : Float → Text
 nextFloat x = space ▸ float x
 
-abbrev pub numberOf : List ℕ → ℕ → Text
-numberOf ns i = nextNumber (getD ns i 0)
+abbrev pub numberAt : List ℕ → ℕ → Text
+numberAt ns i = nextNumber (getD ns i 0)
 
 unfoldable pub allNumbers : List ℕ → Text
-allNumbers ns = inTurn (length ns) (numberOf ns)
+allNumbers ns = inTurn (length ns) (numberAt ns)
 
-abbrev pub floatOf : List Float → ℕ → Text
-floatOf xs i = nextFloat (getD xs i nan)
+abbrev pub floatAt : List Float → ℕ → Text
+floatAt xs i = nextFloat (getD xs i nan)
 
 unfoldable pub allFloats : List Float → Text
-allFloats xs = inTurn (length xs) (floatOf xs)
+allFloats xs = inTurn (length xs) (floatAt xs)
 
 -- `P/N`: a link's part and its number there
 unfoldable pub place : ℕ → ℕ → Text
 place part n = nextNumber part ▸ word (bytes "/") ▸ number n
 
 -- the place of link i in a map with two bytes a link
-abbrev pub placeOf : List ℕ → ℕ → Text
-placeOf map i = place (getD map (2 * i) 0) (getD map (2 * i + 1) 0)
+abbrev pub placeAt : List ℕ → ℕ → Text
+placeAt map i = place (getD map (2 * i) 0) (getD map (2 * i + 1) 0)
 
 unfoldable pub allPlaces : List ℕ → Text
-allPlaces map = inTurn (length map / 2) (placeOf map)
+allPlaces map = inTurn (length map / 2) (placeAt map)
 
 -- ---- behind a name, which begins with its space or the line
 

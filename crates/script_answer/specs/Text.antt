@@ -2,15 +2,15 @@
 use Prim.Native.Nat.{ℕ, zero, suc}
 use Prim.Native.Char.{code}
 use Prim.Native.String.{String, [], _∷_}
-use mathlib.Core.List.{List, [] as []ᴸ, _∷_ as _∷ᴸ_}
+use mathlib.Core.List.{List, [] as []ᴸ, _∷_ as _∷ᴸ_, _++_}
 use Rattle.script_write.specs.Writing.{Written, written, wordWritten}
 
+infixl 5 _▸_
 -- the bytes of a name
 abbrev pub bytes : String → List ℕ
 bytes [] = []ᴸ
 bytes (c ∷ cs) = code c ∷ᴸ bytes cs
 
-infixl 5 _▸_
 -- nothing, a word of these bytes, or a text and one behind it
 pub data Text : Type 0 where
   nothing : Text
@@ -27,6 +27,12 @@ unfoldable pub textAfter : Text → Written → Written
 textAfter nothing w = w
 textAfter (word bytes) w = wordWritten w bytes
 textAfter (a ▸ b) w = textAfter b (textAfter a w)
+
+-- all its bytes
+unfoldable pub bytesOf : Text → List ℕ
+bytesOf nothing = []ᴸ
+bytesOf (word bytes) = bytes
+bytesOf (a ▸ b) = bytesOf a ++ bytesOf b
 
 -- a text, into a buffer at a position
 abbrev pub textWritten : List ℕ → ℕ → Text → Written

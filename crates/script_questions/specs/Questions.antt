@@ -33,11 +33,13 @@ floatsLent room = take room (replicate dofLimit zero32)
 
 -- ---- springs, rotations and masks
 
+-- `spring_of`
 unfoldable pub springText : Arm → ℕ → ℕ → Text
 springText a link axis =
     let s = springAnswer a link axis in
     answered (s .refusal) (line (bytes "spring") (s .spring .stiffness ∷ s .spring .rest ∷ []))
 
+-- `rot`
 unfoldable pub rotationText : Float → Text
 rotationText angle =
     let r = rotated angle in
@@ -49,6 +51,7 @@ masksLine dofs constraints damping =
     ▸ counted (bytes " constraints") constraints
     ▸ line (bytes " damping") (take dofs damping)
 
+-- `masks`: the damping is lent three places
 unfoldable pub masksText : ℕ → ℕ → ℕ → Text
 masksText locked limit motor =
     let d = dampingAnswer locked (replicate 3 zero32) in
@@ -57,11 +60,13 @@ masksText locked limit motor =
 
 -- ---- lists of numbers, in lent places
 
+-- `branch`
 unfoldable pub branchText : Arm → ℕ → List ℕ → Text
 branchText a link lent =
     let b = armBranch a link lent in
     answered (b .answer .refusal) (word (bytes "branch") ▸ allNumbers (take (b .answer .count) (b .memory)) ▸ newline)
 
+-- `starts`
 unfoldable pub startsText : List ℕ → List ℕ → Text
 startsText masks lent =
     let s = startsAnswer masks lent in
@@ -86,7 +91,7 @@ startsSaid out at masks places room =
     let lent = take n places in
     started (textWritten out at (startsText masks lent)) (startsAnswer masks lent .memory ++ drop n places)
 
--- `P/N` for each old link
+-- `split`: the part count, and `P/N` for each old link
 unfoldable pub splitText : Arm → Split → List ℕ → Text
 splitText a s lent =
     let p = armSplit a s lent in
@@ -98,17 +103,19 @@ splitText a s lent =
 abbrev pub rowLent : Arm → RowName → ℕ → List Float
 rowLent a name room = take room (getD (a .rows) (rowNumber name) (record { entries = [] }) .entries)
 
+-- `view`, out of two lent rows
 unfoldable pub viewText : Arm → Role → ℕ → List Float → List Float → Text
 viewText a role link velocities accelerations =
     let v = viewAnswer a role link velocities accelerations in
     answered (v .refusal) (line (bytes "view") (v .part))
 
+-- `jmul`
 unfoldable pub jmulText : Arm → ℕ → List Float → Text
 jmulText a link accelerations =
     let m = mulAnswer a link accelerations in
     answered (m .refusal) (line (bytes "jmul") (m .axes))
 
--- as many right sides as are given
+-- `solve`: as many right sides as are given
 unfoldable pub solveText : List Float → List Float → List Float → Text
 solveText mass right lent =
     let s = solveOf (length right) mass right lent in

@@ -21,6 +21,7 @@ gains row =
     ▸ named (bytes " cfm_gain") (row .«cfm_gain» ∷ [])
     ▸ named (bytes " inv_lhs") (row .«inv_lhs» ∷ [])
 
+-- a row's answer, where its J and WJ stand in the first n of j and wj
 unfoldable pub constraintText : List ℕ → ConstraintRow → ℕ → List Float → List Float → Text
 constraintText name row n j wj =
     answered (row .refusal) (word name ▸ gains row ▸ named (bytes " j") (take n j) ▸ line (bytes " wj") (take n wj))
@@ -50,6 +51,7 @@ frictionText a link axis dt cfm mass j wj =
 abbrev pub forceOf : List Float → Force
 forceOf xs = record { x = getD xs 0 nan; y = getD xs 1 nan; torque = getD xs 2 nan }
 
+-- the answer of `fill_jacobians`
 unfoldable pub sumsText : Sums → ℕ → List Float → List Float → Text
 sumsText sums n j wj =
     answered (sums .refusal)

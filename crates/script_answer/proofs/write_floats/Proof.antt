@@ -5,14 +5,14 @@ use native.Mathlib.Omega.{arith}
 use lib.ListN.{length}
 use Rattle.script_write.specs.Writing.{written}
 use Rattle.script_answer.specs.Text.{inTurn, textWritten}
-use Rattle.script_answer.specs.Answers.{allFloats, floatOf}
+use Rattle.script_answer.specs.Answers.{allFloats, floatAt}
 use Rattle.script_answer.proofs.Turns.{last-turn, next-turn, no-turn}
 use borrow.Author.Needs.{needs}
 use Rattle.script_answer.proofs.write_floats.Statement.{statement}
 use Rattle.script_answer.proofs.write_floats.Tie as tie
 
 abbrev Inv-loop : tie.InvT-loop
-Inv-loop out₀ at floats next₀ i₀ out next i = (i ≤ length floats) × (length out ≡ length out₀) × (written next out ≡ textWritten out₀ at (inTurn i (floatOf floats)))
+Inv-loop out₀ at floats next₀ i₀ out next i = (i ≤ length floats) × (length out ≡ length out₀) × (written next out ≡ textWritten out₀ at (inTurn i (floatAt floats)))
 
 abbrev μ-loop : tie.MeasureT-loop
 μ-loop out₀ at floats next₀ i₀ out next i = length floats - i
@@ -20,7 +20,7 @@ abbrev μ-loop : tie.MeasureT-loop
 loop-holds : tie.Need-loop-holds Inv-loop μ-loop
 loop-holds c =
     let a = c .before .before .args in
-    (omega arith, refl, no-turn (floatOf (a .floats .now)) (written (a .at) (a .out .now)))
+    (omega arith, refl, no-turn (floatAt (a .floats .now)) (written (a .at) (a .out .now)))
 
 mul-write-next-float : tie.Need-mul-write-next-float Inv-loop μ-loop
 mul-write-next-float c = search needs
@@ -41,7 +41,7 @@ loop-again : tie.Need-loop-again Inv-loop μ-loop
 loop-again c =
     let k = c .before .before .before .before .before .before .loop in
     let a = c .before .before .before .before .before .before .before .before .before .args in
-    (omega arith, omega arith, next-turn (floatOf (a .floats .now)) (written (a .at) (a .out .now)) (k .i) (k .inv .2) (c .before .before .write-next-float .ensures))
+    (omega arith, omega arith, next-turn (floatAt (a .floats .now)) (written (a .at) (a .out .now)) (k .i) (k .inv .2) (c .before .before .write-next-float .ensures))
 
 same-length : tie.Need-same-length Inv-loop μ-loop
 same-length c = search needs
@@ -51,7 +51,7 @@ unfolding allFloats
 returns c =
     let k = c .before .loop in
     let a = c .before .before .before .before .args in
-    last-turn (floatOf (a .floats .now)) (written (a .at) (a .out .now)) (k .i) (length (a .floats .now)) (omega arith) (omega arith) (k .inv .2)
+    last-turn (floatAt (a .floats .now)) (written (a .at) (a .out .now)) (k .i) (length (a .floats .now)) (omega arith) (omega arith) (k .inv .2)
 
 pub write-floats-spec : {M : Type 1} → statement M
 write-floats-spec =

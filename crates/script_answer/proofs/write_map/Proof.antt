@@ -5,14 +5,14 @@ use native.Mathlib.Omega.{arith}
 use lib.ListN.{length}
 use Rattle.script_write.specs.Writing.{written}
 use Rattle.script_answer.specs.Text.{inTurn, textWritten}
-use Rattle.script_answer.specs.Answers.{allPlaces, placeOf}
+use Rattle.script_answer.specs.Answers.{allPlaces, placeAt}
 use Rattle.script_answer.proofs.Turns.{last-turn, next-turn, no-turn}
 use borrow.Author.Needs.{needs}
 use Rattle.script_answer.proofs.write_map.Statement.{statement}
 use Rattle.script_answer.proofs.write_map.Tie as tie
 
 abbrev Inv-loop : tie.InvT-loop
-Inv-loop out₀ at map n next₀ i₀ out next i = (i ≤ n) × (n ≡ length map / 2) × (length out ≡ length out₀) × (written next out ≡ textWritten out₀ at (inTurn i (placeOf map)))
+Inv-loop out₀ at map n next₀ i₀ out next i = (i ≤ n) × (n ≡ length map / 2) × (length out ≡ length out₀) × (written next out ≡ textWritten out₀ at (inTurn i (placeAt map)))
 
 abbrev μ-loop : tie.MeasureT-loop
 μ-loop out₀ at map n next₀ i₀ out next i = n - i
@@ -20,7 +20,7 @@ abbrev μ-loop : tie.MeasureT-loop
 loop-holds : tie.Need-loop-holds Inv-loop μ-loop
 loop-holds c =
     let a = c .before .before .args in
-    (omega arith, refl, refl, no-turn (placeOf (a .map .now)) (written (a .at) (a .out .now)))
+    (omega arith, refl, refl, no-turn (placeAt (a .map .now)) (written (a .at) (a .out .now)))
 
 mul-write-place : tie.Need-mul-write-place Inv-loop μ-loop
 mul-write-place c = search needs
@@ -50,7 +50,7 @@ loop-again : tie.Need-loop-again Inv-loop μ-loop
 loop-again c =
     let k = c .before .before .before .before .before .before .before .loop in
     let a = c .before .before .before .before .before .before .before .before .before .before .args in
-    (omega arith, k .inv .1, omega arith, next-turn (placeOf (a .map .now)) (written (a .at) (a .out .now)) (k .i) (k .inv .3) (c .before .before .write-place .ensures))
+    (omega arith, k .inv .1, omega arith, next-turn (placeAt (a .map .now)) (written (a .at) (a .out .now)) (k .i) (k .inv .3) (c .before .before .write-place .ensures))
 
 same-length : tie.Need-same-length Inv-loop μ-loop
 same-length c = search needs
@@ -60,7 +60,7 @@ unfolding allPlaces
 returns c =
     let k = c .before .loop in
     let a = c .before .before .before .before .args in
-    last-turn (placeOf (a .map .now)) (written (a .at) (a .out .now)) (k .i) (length (a .map .now) / 2) (omega arith) (omega arith) (k .inv .3)
+    last-turn (placeAt (a .map .now)) (written (a .at) (a .out .now)) (k .i) (length (a .map .now) / 2) (omega arith) (omega arith) (k .inv .3)
 
 pub write-map-spec : {M : Type 1} → statement M
 write-map-spec =
