@@ -31,7 +31,6 @@ use script_answer::write_named;
 use script_answer::write_next_number;
 use script_write::bits_of;
 use script_write::write_byte;
-use script_write::write_word;
 
 // ---- Parts of lines
 

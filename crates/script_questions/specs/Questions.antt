@@ -12,7 +12,6 @@ use Rattle.topology.specs.declared.Split.{Split}
 use Rattle.solve.specs.Solve.{solveOf}
 use Rattle.arm.specs.declared.Arm.{Arm}
 use Rattle.arm.specs.declared.RowName.{RowName}
-use Rattle.arm.specs.declared.RowName.the-variants.{Velocities, Accelerations}
 use Rattle.arm.specs.Arm.{liveLinks, rowNumber}
 use Rattle.arm_views.specs.declared.Role.{Role}
 use Rattle.arm_views.specs.Branch.{armBranch}
