@@ -24,12 +24,12 @@ use Rattle.arm.specs.Edits.{modify}
 use Rattle.arm.specs.HandedIn.{armRefusal}
 use Rattle.arm.specs.Agree.{Agree, Sized}
 use Rattle.arm.proofs.Edits.{take-modify, map-modify, map-modify-same}
-use Rattle.arm.proofs.Live.{masks-live, mask-there, dof-count-le, root-some}
+use Rattle.arm.proofs.Live.{masks-live, mask-there, dof-count-le}
 use Rattle.kinematics.specs.State.{noLink}
 use Rattle.settled.proofs.Accepted.{accepted}
 use Rattle.settled.proofs.Modified.{length-modify}
 use Rattle.root_change.specs.Root.{rootLink, widened, narrowed, rootRow, rootMask, rootRows, rootChanged}
-use Rattle.root_change.proofs.Settled.{Kind, kinds, root-locked, fixed-dofs, free-dofs}
+use Rattle.root_change.proofs.Settled.{Kind, root-kind, kinds, root-locked, fixed-dofs, free-dofs}
 use Rattle.agreement.proofs.Rows.{of-rows}
 use Rattle.agreement.proofs.Worked.{same-link, Workable, workable}
 
@@ -118,7 +118,7 @@ module _ (a : Arm) (s : Sized a) (locked : ℕ) (p : Pose) (k : Passed a locked)
       ∙ first-total (masksOf a) locked (omega (arith, masks-live a (s .links), there))
 
   was-kind : Kind (rootMask a)
-  was-kind = root-some a (s .links) noLink (λ z. omega (arith, k .some)) ∙ accepted a (k .arm) .root
+  was-kind = root-kind a (s .links) (λ z. omega (arith, k .some)) ∙ accepted a (k .arm) .root
 
   rows-rooted : rowsOf (rootChanged a locked p) ≡ map (rerooted (rootMask a) locked) (rowsOf a)
   unfolding rowsOf rootChanged rootRows

@@ -27,11 +27,11 @@ use Rattle.arm.specs.declared.Row.{Row}
 use Rattle.arm.specs.declared.Arm.{Arm}
 use Rattle.arm.specs.Arm.{liveLinks, linksOf, couplingsOf, tagOf, parentOf, lockedOf, masksOf, dofCountOf, entriesTo, rowsOf}
 use Rattle.arm.specs.Edits.{modify}
-use Rattle.arm.specs.HandedIn.{every, tagsUnique, linkNumbersFit, jointMasksFit, linkMasksFit, rootFits, couplingAxesFit, masksAndAxesFit, jointFinite, linkFinite, couplingFinite, rowsFinite, floatsFinite, angleFits, linkAngleFits, anglesFit, armRefusal}
+use Rattle.arm.specs.HandedIn.{every, tagsUnique, linkNumbersFit, jointMasksFit, linkMasksFit, rootMaskFits, rootFits, couplingAxesFit, masksAndAxesFit, jointFinite, linkFinite, couplingFinite, rowsFinite, floatsFinite, angleFits, linkAngleFits, anglesFit, armRefusal}
 use Rattle.arm.proofs.Accepted.{both-hold}
 use Rattle.arm.proofs.Every.{every-map}
-use Rattle.arm.proofs.Live.{dof-count-le, root-some}
-use Rattle.kinematics.specs.State.{noLink, linkAt}
+use Rattle.arm.proofs.Live.{dof-count-le}
+use Rattle.kinematics.specs.State.{linkAt}
 use Rattle.topology.proofs.Small.{differ}
 use Rattle.working.specs.Outcome.{tablesFit}
 use Rattle.working.proofs.Tests.{Passes, both, holds-in, passes, not-refused, link-passes, links-pass, each-passes, all-pass, tags-stay, numbers-stay}
@@ -47,6 +47,16 @@ zero-finite = refl
 
 abbrev pub Kind : ℕ → Type 0
 Kind locked = isRootMask locked ≡ true
+
+-- the root's mask, by what an arm handed in is tested for
+pub root-kind : (a : Arm) → length (a .links) ≡ linkLimit → (a .«link_count» ≡ 0 → ⊥) → isRootMask (linkAt (a .links) 0 .joint .locked) ≡ rootFits a
+unfolding rootFits masksOf linksOf
+root-kind a w h = first (a .links) (liveLinks a) (omega arith) (omega arith)
+  where
+    first : (ls : List Link) (n : ℕ) → 0 < n → 0 < length ls → isRootMask (linkAt ls 0 .joint .locked) ≡ rootMaskFits (map lockedOf (take n ls))
+    first [] n p l = absurd (omega arith)
+    first (x ∷ ls) zero p l = absurd (omega arith)
+    first (x ∷ ls) (suc n) p l = refl
 
 -- what holds of each of the four joints holds of the root's
 by-type : (P : Joint → Type 0) (locked : ℕ) (p : Pose) (j : Joint) → P (freePosSet j p) → P (withFrame1 j p) → P (freeJoint p) → P (fixedJoint p) → P (rootJoint locked p j)
@@ -256,7 +266,7 @@ module _ (a : Arm) (sized : length (a .links) ≡ linkLimit) (three : length (li
   masks-were = both-hold _ _ (both-hold _ (every couplingAxesFit (couplingsOf a)) (was .masks) .0)
 
   was-kind : Kind (rootMask a)
-  was-kind = root-some a sized noLink (λ z. omega arith) ∙ masks-were .1
+  was-kind = root-kind a sized (λ z. omega arith) ∙ masks-were .1
 
   new-mask : linkAt ls 0 .joint .locked ≡ locked
   unfolding rootLink
@@ -268,7 +278,7 @@ module _ (a : Arm) (sized : length (a .links) ≡ linkLimit) (three : length (li
       both
       (both
       (links-pass new sized-after linkMasksFit (test-stays linkMasksFit (masks-were .0) (masks-fit locked p root)))
-      (sym (root-some new sized-after noLink (λ z. omega arith)) ∙ ap isRootMask new-mask ∙ kind))
+      (sym (root-kind new sized-after (λ z. omega arith)) ∙ ap isRootMask new-mask ∙ kind))
       (both-hold (every linkMasksFit (linksOf a) && rootFits a) _ (was .masks) .1)
 
   angles-after : anglesFit new ≡ true
