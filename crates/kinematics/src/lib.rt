@@ -2,16 +2,14 @@
 // Poses and shifts are kept in the links, Jacobian blocks in lent tables.
 ghost use mathlib.Core.Path.{_≡_};
 ghost use mathlib.Core.Bool.{cond};
-ghost use mathlib.Core.List.{map};
 ghost use Prim.Native.Nat.{min, _+_, _*_, _≤_, _<_};
 ghost use lib.Dec.{ltb};
 ghost use lib.ListN.{length};
 ghost use Rattle.limits.specs.Limits.{linkLimit, dofLimit, blockSize, tableSize};
-ghost use Rattle.masks.specs.Starts.{startOf};
 ghost use Rattle.kinematics.specs.Blocks.{part, withPart, blockAt, withBlock, zeroBlock, shifted, columnAdded, axisAdded, ownAdded, copiedFrom};
 ghost use Rattle.kinematics.specs.Link.{rootPosed, laterPosed, posedOf, blockFrom, withPlace, finitePlace, TurnedTo};
-ghost use Rattle.kinematics.specs.State.{lockedOf, marked, only, blocksOf, laid, WorkedOut};
-ghost use Rattle.kinematics.specs.Answers.{out, refreshMarked, refreshAll};
+ghost use Rattle.kinematics.specs.State.{marked, blocksOf, laid, WorkedOut};
+ghost use Rattle.kinematics.specs.Answers.{out, refreshMarked, turnedOut, refreshOne, refreshAll};
 use arm::Link;
 use floats::all_finite;
 use floats::copy;
@@ -166,9 +164,9 @@ fn is_finite_place(world: Pose, shift02: Point, shift23: Point) -> bool
 }
 
 // A link as its turn leaves it, and whether every result is finite.
-struct Turned {
-    link: Link,
-    fine: bool,
+pub struct Turned {
+    pub link: Link,
+    pub fine: bool,
 }
 
 // A link's turn: the block that was copied from its parent's becomes its own.
@@ -315,21 +313,6 @@ pub fn refresh_marked(
     r
 }
 
-// The DoFs of the links before link j.
-fn start_of(links: [Link; LINKS], j: usize) -> usize
-    requires { ⌜ j ≤ linkLimit ⌝ }
-    ensures { λ r. ⌜ r ≡ startOf (map lockedOf links) j ⌝ }
-{
-    let mut start: usize = 0;
-    let mut i: usize = 0;
-    while i < j {
-        let l = links[i];
-        start += dofs(l.joint.locked);
-        i += 1;
-    }
-    start
-}
-
 // A block of zeros takes the one that the tables keep of link p, if that is what is copied.
 fn copy_kept(block: &mut [f32], tables: &[f32], p: usize, later: bool)
     requires { ⌜ (now block ≡ zeroBlock) × (p < linkLimit) × (tableSize ≤ length (now tables)) ⌝ }
@@ -352,33 +335,44 @@ fn put_block(tables: &mut [f32], block: &[f32], j: usize)
     copy(&mut tables[at..end], block);
 }
 
-// Link j alone, if it is one of the first n: what `refresh_marked` does of a single mark, without a work area for all links.
-pub fn refresh_one(links: [Link; LINKS], n: usize, j: usize, tables: &mut [f32]) -> Refreshed
-    ensures { λ r. ⌜ out r (now (tables .exit)) ≡ refreshMarked links n (only j) (now (tables .entry)) ⌝ }
+// Link j alone, if it is one of the first n: what `refresh_marked` does of a single mark, without a work area for all links. It gives that link, and where
+// there is no such place the last one.
+pub fn refresh_one(links: [Link; LINKS], n: usize, j: usize, tables: &mut [f32]) -> Turned
+    ensures { λ r. ⌜ turnedOut r (now (tables .exit)) ≡ refreshOne links n j (now (tables .entry)) ⌝ }
 {
+    let at = fewer(j, LINKS - 1);
+    let l = links[at];
     if tables.len() < TABLES {
-        return Refreshed { fine: false, links };
+        return Turned {
+            link: l,
+            fine: false,
+        };
     }
     if fewer(n, LINKS) <= j {
-        return Refreshed { fine: true, links };
+        return Turned {
+            link: l,
+            fine: true,
+        };
     }
-    let l = links[j];
-    let p = fewer(l.parent as usize, j);
+    let mut start: usize = 0;
+    let mut i: usize = 0;
+    while i < at {
+        let earlier = links[i];
+        start += dofs(earlier.joint.locked);
+        i += 1;
+    }
+    let p = fewer(l.parent as usize, at);
     let above = links[p];
     let mut block = [0.0f32; BLOCK];
-    copy_kept(&mut block, tables, p, p < j);
-    let start = start_of(links, j);
-    let t = refresh_link(l, above, p < j, start, &mut block);
-    if !t.fine {
-        return Refreshed { fine: false, links };
+    copy_kept(&mut block, tables, p, p < at);
+    let t = refresh_link(l, above, p < at, start, &mut block);
+    if t.fine {
+        put_block(tables, &block, at);
+        return t;
     }
-    put_block(tables, &block, j);
-    let link = t.link;
-    let mut new = links;
-    new[j] = link;
-    Refreshed {
-        fine: true,
-        links: new,
+    Turned {
+        link: l,
+        fine: false,
     }
 }
 

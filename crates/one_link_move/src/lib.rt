@@ -8,8 +8,8 @@ ghost use Rattle.limits.specs.Limits.{linkLimit};
 ghost use Rattle.arm.specs.HandedIn.{handedIn};
 ghost use Rattle.kinematics.specs.State.{marked};
 ghost use Rattle.topology.specs.Parents.{parentOf, marks};
-ghost use Rattle.working.specs.Outcome.{out};
-ghost use Rattle.one_link_move.specs.Change.{coordinateSet, changed, movedInputs};
+ghost use Rattle.working.specs.Outcome.{out, workedBy};
+ghost use Rattle.one_link_move.specs.Change.{coordinateSet, changed};
 ghost use Rattle.one_link_move.specs.Move.{testsOf, moveRefusal, alone, linkMoved};
 use arm::Arm;
 use arm::Edited;
@@ -19,6 +19,9 @@ use arm::handed_in;
 use arm::live_links;
 use arm::mask_among;
 use floats::finite;
+use kinematics::Refreshed;
+use kinematics::refresh_marked;
+use kinematics::refresh_one;
 use limits::LINKS;
 use masks::is_axis;
 use masks::is_free;
@@ -36,8 +39,6 @@ use refusal::unless;
 use settled::is_finite_above;
 use topology::at_or_below;
 use working::tables_fit;
-use working::work_marked;
-use working::work_one;
 
 // What a move sets.
 pub enum Change {
@@ -179,21 +180,6 @@ fn with_change(l: Link, change: Change) -> Link
     }
 }
 
-// The arm with one link's inputs changed, and nothing worked out.
-fn with_moved(arm: Arm, link: usize, change: Change) -> Arm
-    ensures { λ r. ⌜ r ≡ movedInputs arm link change ⌝ }
-{
-    if LINKS <= link {
-        return arm;
-    }
-    let mut links = arm.links;
-    let l = links[link];
-    links[link] = with_change(l, change);
-    let mut moved = arm;
-    moved.links = links;
-    moved
-}
-
 // ---- The move
 
 // The link and those below it, by the parents of as many links as count.
@@ -218,6 +204,22 @@ fn is_alone(marks: [bool; LINKS], link: usize) -> bool
     ok
 }
 
+// The arm with the links that a pass left, or 12 and the arm as it came.
+fn worked(arm: Arm, r: Refreshed) -> Edited
+    ensures { λ e. ⌜ e ≡ workedBy arm arm r ⌝ }
+{
+    if r.fine {
+        let links = r.links;
+        let mut new = arm;
+        new.links = links;
+        return Edited {
+            refusal: 0,
+            arm: new,
+        };
+    }
+    Edited { refusal: 12, arm }
+}
+
 // One link's inputs are changed, and it and the links below it are worked out, rising; nothing else is touched.
 pub fn move_link(arm: Arm, tables: &mut [f32], link: u32, change: Change) -> Edited
     ensures { λ e. ⌜ out e (now (tables .exit)) ≡ linkMoved arm (now (tables .entry)) link change ⌝ }
@@ -230,9 +232,22 @@ pub fn move_link(arm: Arm, tables: &mut [f32], link: u32, change: Change) -> Edi
     let at = link as usize;
     let parents = handed.parents;
     let marks = marks_among(parents, arm.link_count, at);
-    let moved = with_moved(arm, at, change);
+    let mut links = arm.links;
+    let l = links[at];
+    links[at] = with_change(l, change);
     if is_alone(marks, at) {
-        return work_one(arm, moved, at, tables);
+        let t = refresh_one(links, arm.link_count, at, tables);
+        if !t.fine {
+            return Edited { refusal: 12, arm };
+        }
+        let turned = t.link;
+        let mut new = arm;
+        new.links[at] = turned;
+        return Edited {
+            refusal: 0,
+            arm: new,
+        };
     }
-    work_marked(arm, moved, marks, tables)
+    let r = refresh_marked(links, arm.link_count, marks, tables);
+    worked(arm, r)
 }

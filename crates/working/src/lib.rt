@@ -1,9 +1,11 @@
 // The working of an arm over its lent tables: what every call that works an arm out ends in, the full working, and the empty arm.
 ghost use mathlib.Core.Path.{_≡_};
+ghost use lib.ListN.{set};
+ghost use Rattle.arm.specs.Edits.{withLinks};
 ghost use Rattle.working.specs.Outcome.{out, tablesFit, workedBy, workedAll, workedMarked};
 ghost use Rattle.working.specs.Full.{fullRefusal, fullWorking};
 ghost use Rattle.working.specs.Empty.{zeroPoint, blankLink, emptyArm, emptied};
-ghost use Rattle.kinematics.specs.State.{marked, only};
+ghost use Rattle.kinematics.specs.State.{only};
 use arm::Arm;
 use arm::Coupling;
 use arm::Edited;
@@ -13,7 +15,6 @@ use arm::arm_refusal;
 use floats::copy;
 use kinematics::Refreshed;
 use kinematics::refresh_all;
-use kinematics::refresh_marked;
 use kinematics::refresh_one;
 use limits::COUPLINGS;
 use limits::DOFS;
@@ -52,13 +53,15 @@ pub fn work_all(old: Arm, new: Arm, tables: &mut [f32]) -> Edited
     worked(old, new, r)
 }
 
-// The marked links of the new arm are worked out, each from what is kept of its parent; 12 leaves the old arm and the tables.
-pub fn work_marked(old: Arm, new: Arm, marks: [bool; LINKS], tables: &mut [f32]) -> Edited
-    ensures { λ e. ⌜ out e (now (tables .exit)) ≡ workedMarked old new (marked marks) (now (tables .entry)) ⌝ }
+// The arm with another link at a place, if there is such a place.
+fn with_link(arm: Arm, at: usize, link: Link) -> Arm
+    ensures { λ r. ⌜ r ≡ withLinks arm (set (arm .links) at link) ⌝ }
 {
-    let links = new.links;
-    let r = refresh_marked(links, new.link_count, marks, tables);
-    worked(old, new, r)
+    let mut new = arm;
+    if at < LINKS {
+        new.links[at] = link;
+    }
+    new
 }
 
 // One link of the new arm is worked out from what is kept of its parent; 12 leaves the old arm and the tables.
@@ -66,8 +69,18 @@ pub fn work_one(old: Arm, new: Arm, link: usize, tables: &mut [f32]) -> Edited
     ensures { λ e. ⌜ out e (now (tables .exit)) ≡ workedMarked old new (only link) (now (tables .entry)) ⌝ }
 {
     let links = new.links;
-    let r = refresh_one(links, new.link_count, link, tables);
-    worked(old, new, r)
+    let t = refresh_one(links, new.link_count, link, tables);
+    if t.fine {
+        let turned = t.link;
+        return Edited {
+            refusal: 0,
+            arm: with_link(new, link, turned),
+        };
+    }
+    Edited {
+        refusal: 12,
+        arm: old,
+    }
 }
 
 // Is the lent memory long enough for the tables?
