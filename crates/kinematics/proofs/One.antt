@@ -147,7 +147,7 @@ set-self (l ∷ ls) (suc j) = ap (λ (x : List Link). l ∷ x) (set-self ls j)
 set-there : (ls links : List Link) (j : ℕ) (l : Link) → j < length ls → links ≡ set ls j l → links ≡ set ls j (linkAt links j)
 set-there ls links j l h e = e ∙ ap (set ls j) (sym (ap (λ (x : List Link). linkAt x j) e ∙ getD-set-same ls j l noLink h))
 
-set-past : (ls : List Link) (j : ℕ) (l : Link) → length ls ≤ j → ls ≡ set ls j l
+pub set-past : (ls : List Link) (j : ℕ) (l : Link) → length ls ≤ j → ls ≡ set ls j l
 set-past [] j l h = refl
 set-past (x ∷ ls) zero l h = absurd (omega arith)
 set-past (x ∷ ls) (suc j) l h = ap (λ (y : List Link). x ∷ y) (set-past ls j l (omega arith))
