@@ -23,8 +23,9 @@ use Rattle.arm.specs.declared.Arm.{Arm}
 use Rattle.arm.specs.Arm.{liveLinks, linksOf, couplingsOf, tagOf, tagsOf, parentsOf, masksOf, dofCountOf, entriesTo, rowsOf}
 use Rattle.arm.specs.Arm as of-arm
 use Rattle.arm.specs.Edits.{modify, withLinks}
-use Rattle.arm.specs.HandedIn.{every, unique, tagsUnique, parentsEarlier, linkMasksFit, rootMaskFits, rootFits, linkFinite, rowsFinite, linkAngleFits}
-use Rattle.arm.proofs.Accepted.{both-hold}
+use Rattle.limits.specs.Limits.{linkLimit}
+use Rattle.arm.specs.HandedIn.{every, unique, tagsUnique, parentsEarlier, linkMasksFit, rootMaskFits, rootFits, linkFinite, rowsFinite, linkAngleFits, armRefusal}
+use Rattle.arm.proofs.Accepted.{both-hold, counts-accepted}
 use Rattle.kinematics.specs.Blocks.{blockAt}
 use Rattle.kinematics.specs.Link.{finiteKept}
 use Rattle.kinematics.specs.State.{state, noLink, linkAt, parentOf, lockedOf, inputsOf, keptAt, keptOps, marked}
@@ -49,12 +50,12 @@ use Rattle.one_link_move.specs.Promise.{AtOrBelow, MoveRight}
 use Rattle.one_link_move.proofs.Changed.{same-tag, same-parent, same-locked, same-masks, resultsOf, same-results, still-finite, still-within}
 
 -- what a move that is not refused passed
-record Passed (a : Arm) (link : ℕ) (change : Change) : Type 0 where
-  there : link < a .«link_count»
+pub record Passed (a : Arm) (link : ℕ) (change : Change) : Type 0 where
+  pub there : link < a .«link_count»
   floats : changeFinite change ≡ true
   angle : angleWithin change ≡ true
 
-passed : (a : Arm) (t : List Float) (link : ℕ) (change : Change) → moveRefusal a t link change ≡ 0 → Passed a link change
+pub passed : (a : Arm) (t : List Float) (link : ℕ) (change : Change) → moveRefusal a t link change ≡ 0 → Passed a link change
 unfolding moveRefusal
 passed a t link change e =
     let p₄ = none-of _ _ (none-of _ _ e .1) in
@@ -65,6 +66,14 @@ passed a t link change e =
       floats = both-hold _ _ (holds (changeFinite change && aboveFinite link (by-list.parentOf (parentsOf a) link) t) 6 (p₇ .0)) .0;
       angle = holds (angleWithin change) 8 (p₉ .0);
     }
+
+-- the link is one that an arm may have
+pub within-limit : (a : Arm) (t : List Float) (link : ℕ) (change : Change) → moveRefusal a t link change ≡ 0 → link < linkLimit
+unfolding moveRefusal armRefusal
+within-limit a t link change e =
+    let p₇ = none-of _ _ (none-of _ _ (none-of _ _ (none-of _ _ (none-of _ _ e .1) .1) .1) .1) in
+    let p = none-of _ _ (none-of _ _ (p₇ .1) .1) .1 in
+    omega (arith, passed a t link change e .there, counts-accepted a p .0)
 
 module _ (a : Arm) (t : List Float) (sized : Sized a) (settled : Settled a t) (link : ℕ) (change : Change) (k : Passed a link change) where
   facts-of : Facts a t

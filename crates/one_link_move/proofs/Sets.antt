@@ -1,10 +1,8 @@
 -- What a move sets, case by case as the code does. Assumes nothing.
-use Prim.Native.Nat.{ℕ, zero, suc, _≤_, _<_}
-use mathlib.Core.Path.{_≡_, refl, ap}
-use mathlib.Core.List.{List, [], _∷_}
-use native.Mathlib.Omega.{arith}
+use Prim.Native.Nat.{ℕ, _≤_, _<_}
+use mathlib.Core.Path.{_≡_, ap}
 use borrow.Author.Tests.{lt-ltb, le-ltb, eq-eqb, ne-eqb}
-use lib.ListN.{length, getD, set}
+use lib.ListN.{getD, set}
 use lib.Ieee.{Float}
 use Rattle.planar.specs.declared.Rotation.{Rotation}
 use Rattle.planar.specs.Rotation.{rotationAt}
@@ -12,7 +10,7 @@ use Rattle.multibody_joint.specs.declared.Joint.{Joint}
 use Rattle.multibody_joint.specs.Joint.{withMotion}
 use Rattle.arm.specs.declared.Link.{Link}
 use Rattle.arm.specs.declared.Arm.{Arm}
-use Rattle.arm.specs.Edits.{modify, withLinks}
+use Rattle.arm.specs.Edits.{withLinks}
 use Rattle.arm.proofs.Edits.{set-modify}
 use Rattle.one_link_move.specs.declared.Change.{Change}
 use Rattle.one_link_move.specs.Change.{coordinateSet, changed, movedInputs}
@@ -34,17 +32,7 @@ module _ (j : Joint) (axis : ℕ) (value : Float) where
 
 -- ---- the arm
 
-modify-past : {A : Type 0} (f : A → A) (i : ℕ) (xs : List A) → length xs ≤ i → xs ≡ modify f i xs
-unfolding modify
-modify-past f i [] h = refl
-modify-past f zero (x ∷ xs) h = absurd (omega arith)
-modify-past {A = A} f (suc i) (x ∷ xs) h = ap (λ (l : List A). x ∷ l) (modify-past f i xs (omega arith))
-
 module _ (a : Arm) (link : ℕ) (change : Change) where
-  pub moved-past : length (a .links) ≤ link → a ≡ movedInputs a link change
-  unfolding movedInputs
-  moved-past h = ap (withLinks a) (modify-past (changed change) link (a .links) h)
-
   pub moved-there : (d l : Link) → l ≡ changed change (getD (a .links) link d) → withLinks a (set (a .links) link l) ≡ movedInputs a link change
   unfolding movedInputs
   moved-there d l e = ap (withLinks a) (set-modify (changed change) (a .links) link d l e)
