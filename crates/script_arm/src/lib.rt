@@ -1,6 +1,14 @@
 // What `dump`, `kin` and `check` say of an arm and its tables. They print what is there, and refuse nothing: lists go as far as they fit.
 ghost use mathlib.Core.Path.{_≡_};
-ghost use Prim.Native.Nat.{_≤_, _<_, min};
+ghost use Prim.Native.Nat.{_<_, _≤_, min};
+ghost use lib.ListN.{drop, take};
+ghost use Rattle.limits.specs.Limits.{couplingLimit};
+ghost use Rattle.script_write.specs.Writing.{written};
+ghost use Rattle.script_answer.specs.Text.{textWritten};
+ghost use Rattle.script_answer.specs.Answers.{named};
+ghost use Rattle.script_arm.specs.Dump.{counts, couplingLines, couplingText, dumped, ending, jointMasks, jointMotion, linkLines, linkNumbers, linkText, pointFloats, poseFloats, printed, rotationFloats, rowLine, rowLines};
+ghost use Rattle.script_arm.specs.Kept.{blockLines, blockRow, blockText, kept, keptLines, keptText};
+ghost use Rattle.script_arm.specs.Check.{changedCount, checked, isUsed, oneIf, spareCount};
 use arm::Arm;
 use arm::Coupling;
 use arm::Link;
@@ -28,7 +36,9 @@ use script_write::write_word;
 // ---- Parts of lines
 
 // A count that is printed: those of an arm that the script can make are far below.
-fn printed(count: usize) -> u32 {
+fn printed(count: usize) -> u32
+    ensures { λ r. ⌜ r ≡ printed count ⌝ }
+{
     if count < 4294967295 {
         count as u32
     } else {
@@ -36,42 +46,64 @@ fn printed(count: usize) -> u32 {
     }
 }
 
-fn write_pose(out: &mut [u8], at: usize, name: &[u8], p: Pose) -> usize {
+fn write_pose(out: &mut [u8], at: usize, name: &[u8], p: Pose) -> usize
+    ensures { λ r. ⌜ written r (now (out .exit)) ≡ textWritten (now (out .entry)) at (named (now (name .entry)) (poseFloats p)) ⌝ }
+{
     let floats = [p.re, p.im, p.x, p.y];
     write_named(out, at, name, &floats)
 }
 
-fn write_point(out: &mut [u8], at: usize, name: &[u8], p: Point) -> usize {
+fn write_point(out: &mut [u8], at: usize, name: &[u8], p: Point) -> usize
+    ensures { λ r. ⌜ written r (now (out .exit)) ≡ textWritten (now (out .entry)) at (named (now (name .entry)) (pointFloats p)) ⌝ }
+{
     let floats = [p.x, p.y];
     write_named(out, at, name, &floats)
 }
 
-fn write_rotation(out: &mut [u8], at: usize, name: &[u8], r: Rotation) -> usize {
-    let floats = [r.re, r.im];
+fn write_rotation(out: &mut [u8], at: usize, name: &[u8], turn: Rotation) -> usize
+    ensures { λ r. ⌜ written r (now (out .exit)) ≡ textWritten (now (out .entry)) at (named (now (name .entry)) (rotationFloats turn)) ⌝ }
+{
+    let floats = [turn.re, turn.im];
     write_named(out, at, name, &floats)
 }
 
-fn write_axes(out: &mut [u8], at: usize, name: &[u8], axes: [f32; 3]) -> usize {
+// Floats, to the end of the line.
+fn write_ending(out: &mut [u8], at: usize, floats: &[f32]) -> usize
+    ensures { λ r. ⌜ written r (now (out .exit)) ≡ textWritten (now (out .entry)) at (ending (now (floats .entry))) ⌝ }
+{
+    let next = write_floats(out, at, floats);
+    write_byte(out, next, b'\n')
+}
+
+fn write_axes(out: &mut [u8], at: usize, name: &[u8], axes: [f32; 3]) -> usize
+    ensures { λ r. ⌜ written r (now (out .exit)) ≡ textWritten (now (out .entry)) at (named (now (name .entry)) axes) ⌝ }
+{
     let floats = axes;
     write_named(out, at, name, &floats)
 }
 
 // ---- A link
 
-fn write_masks(out: &mut [u8], at: usize, j: Joint) -> usize {
+fn write_masks(out: &mut [u8], at: usize, j: Joint) -> usize
+    ensures { λ r. ⌜ written r (now (out .exit)) ≡ textWritten (now (out .entry)) at (jointMasks j) ⌝ }
+{
     let locked = write_counted(out, at, b" masks", j.locked as u32);
     let limited = write_next_number(out, locked, j.limit as u32);
     write_next_number(out, limited, j.motor as u32)
 }
 
-fn write_numbers_of(out: &mut [u8], at: usize, link: u32, start: u32, l: Link) -> usize {
+fn write_numbers_of(out: &mut [u8], at: usize, link: u32, start: u32, l: Link) -> usize
+    ensures { λ r. ⌜ written r (now (out .exit)) ≡ textWritten (now (out .entry)) at (linkNumbers link start l) ⌝ }
+{
     let numbered = write_counted(out, at, b"link", link);
     let tagged = write_counted(out, numbered, b" tag", l.tag);
     let placed = write_counted(out, tagged, b" parent", l.parent as u32);
     write_counted(out, placed, b" start", start)
 }
 
-fn write_motion(out: &mut [u8], at: usize, j: Joint) -> usize {
+fn write_motion(out: &mut [u8], at: usize, j: Joint) -> usize
+    ensures { λ r. ⌜ written r (now (out .exit)) ≡ textWritten (now (out .entry)) at (jointMotion j) ⌝ }
+{
     let coordinates = j.coordinates;
     let stiffness = j.stiffness;
     let rest = j.rest;
@@ -81,7 +113,9 @@ fn write_motion(out: &mut [u8], at: usize, j: Joint) -> usize {
     write_axes(out, sprung, b" rest", rest)
 }
 
-fn write_link(out: &mut [u8], at: usize, link: u32, start: u32, l: Link) -> usize {
+fn write_link(out: &mut [u8], at: usize, link: u32, start: u32, l: Link) -> usize
+    ensures { λ r. ⌜ written r (now (out .exit)) ≡ textWritten (now (out .entry)) at (linkText link start l) ⌝ }
+{
     let joint = l.joint;
     let numbered = write_numbers_of(out, at, link, start, l);
     let masked = write_masks(out, numbered, joint);
@@ -92,7 +126,9 @@ fn write_link(out: &mut [u8], at: usize, link: u32, start: u32, l: Link) -> usiz
     write_byte(out, moved, b'\n')
 }
 
-fn write_links(out: &mut [u8], at: usize, arm: Arm) -> usize {
+fn write_links(out: &mut [u8], at: usize, arm: Arm) -> usize
+    ensures { λ r. ⌜ written r (now (out .exit)) ≡ textWritten (now (out .entry)) at (linkLines arm) ⌝ }
+{
     let n = live_links(arm.link_count);
     let mut next = at;
     let mut i = 0;
@@ -108,7 +144,9 @@ fn write_links(out: &mut [u8], at: usize, arm: Arm) -> usize {
 // ---- Rows
 
 // The floats from a position on, at most n of them.
-fn some_of(s: &[f32], at: usize, n: usize) -> &[f32] {
+fn some_of(s: &[f32], at: usize, n: usize) -> &[f32]
+    ensures { λ r. ⌜ now r ≡ take n (drop at (now (s .entry))) ⌝ }
+{
     if at < s.len() {
         let left = s.len() - at;
         if n < left {
@@ -120,12 +158,16 @@ fn some_of(s: &[f32], at: usize, n: usize) -> &[f32] {
     &s[0..0]
 }
 
-fn write_row(out: &mut [u8], at: usize, name: &[u8], row: Row, dofs: usize) -> usize {
+fn write_row(out: &mut [u8], at: usize, name: &[u8], row: Row, dofs: usize) -> usize
+    ensures { λ r. ⌜ written r (now (out .exit)) ≡ textWritten (now (out .entry)) at (rowLine (now (name .entry)) row dofs) ⌝ }
+{
     let entries = row.entries;
     write_line(out, at, name, some_of(&entries, 0, dofs))
 }
 
-fn write_rows(out: &mut [u8], at: usize, arm: Arm, dofs: usize) -> usize {
+fn write_rows(out: &mut [u8], at: usize, arm: Arm, dofs: usize) -> usize
+    ensures { λ r. ⌜ written r (now (out .exit)) ≡ textWritten (now (out .entry)) at (rowLines arm dofs) ⌝ }
+{
     let velocities = arm.rows[0];
     let damping = arm.rows[1];
     let armature = arm.rows[2];
@@ -140,22 +182,26 @@ fn write_rows(out: &mut [u8], at: usize, arm: Arm, dofs: usize) -> usize {
 
 // ---- Couplings
 
-fn write_coupling(out: &mut [u8], at: usize, c: Coupling) -> usize {
+fn write_coupling(out: &mut [u8], at: usize, c: Coupling) -> usize
+    ensures { λ r. ⌜ written r (now (out .exit)) ≡ textWritten (now (out .entry)) at (couplingText c) ⌝ }
+{
     let floats = [c.coefficient, c.offset];
     let link1 = write_counted(out, at, b"coupling", c.link1 as u32);
     let axis1 = write_next_number(out, link1, c.axis1 as u32);
     let link2 = write_next_number(out, axis1, c.link2 as u32);
     let axis2 = write_next_number(out, link2, c.axis2 as u32);
-    write_line(out, axis2, b"", &floats)
+    write_ending(out, axis2, &floats)
 }
 
 fn live_couplings(count: usize) -> usize
-    ensures { λ r. ⌜ r ≡ min count 8 ⌝ }
+    ensures { λ r. ⌜ r ≡ min count couplingLimit ⌝ }
 {
     if count < COUPLINGS { count } else { COUPLINGS }
 }
 
-fn write_couplings(out: &mut [u8], at: usize, arm: Arm) -> usize {
+fn write_couplings(out: &mut [u8], at: usize, arm: Arm) -> usize
+    ensures { λ r. ⌜ written r (now (out .exit)) ≡ textWritten (now (out .entry)) at (couplingLines arm) ⌝ }
+{
     let n = live_couplings(arm.coupling_count);
     let mut next = at;
     let mut i = 0;
@@ -169,7 +215,9 @@ fn write_couplings(out: &mut [u8], at: usize, arm: Arm) -> usize {
 
 // ---- The arm
 
-fn write_counts(out: &mut [u8], at: usize, arm: Arm, dofs: usize) -> usize {
+fn write_counts(out: &mut [u8], at: usize, arm: Arm, dofs: usize) -> usize
+    ensures { λ r. ⌜ written r (now (out .exit)) ≡ textWritten (now (out .entry)) at (counts arm dofs) ⌝ }
+{
     let links = write_counted(out, at, b"arm links", printed(arm.link_count));
     let axes = write_counted(out, links, b" dofs", printed(dofs));
     let couplings = write_counted(out, axes, b" couplings", printed(arm.coupling_count));
@@ -177,7 +225,9 @@ fn write_counts(out: &mut [u8], at: usize, arm: Arm, dofs: usize) -> usize {
 }
 
 // The arm, as `dump` prints it.
-pub fn write_arm(out: &mut [u8], at: usize, arm: Arm) -> usize {
+pub fn write_arm(out: &mut [u8], at: usize, arm: Arm) -> usize
+    ensures { λ r. ⌜ written r (now (out .exit)) ≡ textWritten (now (out .entry)) at (dumped arm) ⌝ }
+{
     let dofs = dof_count(arm);
     let counted = write_counts(out, at, arm, dofs);
     let linked = write_links(out, counted, arm);
@@ -187,19 +237,23 @@ pub fn write_arm(out: &mut [u8], at: usize, arm: Arm) -> usize {
 
 // ---- What is kept
 
-fn write_kept(out: &mut [u8], at: usize, link: u32, l: Link) -> usize {
+fn write_kept(out: &mut [u8], at: usize, link: u32, l: Link) -> usize
+    ensures { λ r. ⌜ written r (now (out .exit)) ≡ textWritten (now (out .entry)) at (keptText link l) ⌝ }
+{
     let world = l.world;
     let shift02 = l.shift02;
     let shift23 = l.shift23;
     let pose = [world.re, world.im, world.x, world.y];
     let shifts = [shift02.x, shift02.y, shift23.x, shift23.y];
     let numbered = write_counted(out, at, b"pose", link);
-    let posed = write_line(out, numbered, b"", &pose);
+    let posed = write_ending(out, numbered, &pose);
     let again = write_counted(out, posed, b"shifts", link);
-    write_line(out, again, b"", &shifts)
+    write_ending(out, again, &shifts)
 }
 
-fn write_kept_links(out: &mut [u8], at: usize, arm: Arm) -> usize {
+fn write_kept_links(out: &mut [u8], at: usize, arm: Arm) -> usize
+    ensures { λ r. ⌜ written r (now (out .exit)) ≡ textWritten (now (out .entry)) at (keptLines arm) ⌝ }
+{
     let n = live_links(arm.link_count);
     let mut next = at;
     let mut i = 0;
@@ -220,26 +274,25 @@ fn write_jacobian_row(
     tables: &[f32],
 ) -> usize
     requires { ⌜ (link < 16) × (row < 3) ⌝ }
+    ensures { λ r. ⌜ written r (now (out .exit)) ≡ textWritten (now (out .entry)) at (blockRow (now (tables .entry)) dofs link row) ⌝ }
 {
     let numbered = write_counted(out, at, b"jac", link as u32);
     let named = write_counted(out, numbered, b" row", row as u32);
-    write_line(
-        out,
-        named,
-        b"",
-        some_of(tables, link * BLOCK + row * DOFS, dofs),
-    )
+    write_ending(out, named, some_of(tables, link * BLOCK + row * DOFS, dofs))
 }
 
 fn write_jacobian(out: &mut [u8], at: usize, link: usize, dofs: usize, tables: &[f32]) -> usize
     requires { ⌜ link < 16 ⌝ }
+    ensures { λ r. ⌜ written r (now (out .exit)) ≡ textWritten (now (out .entry)) at (blockText (now (tables .entry)) dofs link) ⌝ }
 {
     let first = write_jacobian_row(out, at, link, 0, dofs, tables);
     let second = write_jacobian_row(out, first, link, 1, dofs, tables);
     write_jacobian_row(out, second, link, 2, dofs, tables)
 }
 
-fn write_jacobians(out: &mut [u8], at: usize, arm: Arm, tables: &[f32]) -> usize {
+fn write_jacobians(out: &mut [u8], at: usize, arm: Arm, tables: &[f32]) -> usize
+    ensures { λ r. ⌜ written r (now (out .exit)) ≡ textWritten (now (out .entry)) at (blockLines arm (now (tables .entry))) ⌝ }
+{
     let n = live_links(arm.link_count);
     let dofs = dof_count(arm);
     let mut next = at;
@@ -252,7 +305,9 @@ fn write_jacobians(out: &mut [u8], at: usize, arm: Arm, tables: &[f32]) -> usize
 }
 
 // What is kept of the arm, as `kin` prints it.
-pub fn write_kinematics(out: &mut [u8], at: usize, arm: Arm, tables: &[f32]) -> usize {
+pub fn write_kinematics(out: &mut [u8], at: usize, arm: Arm, tables: &[f32]) -> usize
+    ensures { λ r. ⌜ written r (now (out .exit)) ≡ textWritten (now (out .entry)) at (kept arm (now (tables .entry))) ⌝ }
+{
     let kept = write_kept_links(out, at, arm);
     write_jacobians(out, kept, arm, tables)
 }
@@ -260,18 +315,22 @@ pub fn write_kinematics(out: &mut [u8], at: usize, arm: Arm, tables: &[f32]) -> 
 // ---- The tables
 
 fn one_if(holds: bool) -> usize
-    ensures { λ r. ⌜ r ≤ 1 ⌝ }
+    ensures { λ r. ⌜ (r ≡ oneIf holds) × (r ≤ 1) ⌝ }
 {
     if holds { 1 } else { 0 }
 }
 
 // Is the place of the tables a used column of a link?
-fn is_used(at: usize, links: usize, dofs: usize) -> bool {
+fn is_used(at: usize, links: usize, dofs: usize) -> bool
+    ensures { λ r. ⌜ r ≡ isUsed at links dofs ⌝ }
+{
     (at / BLOCK < links) & (at % DOFS < dofs)
 }
 
 // How many floats that no used column holds aren't plus zero.
-fn spare_count(tables: &[f32], links: usize, dofs: usize) -> usize {
+fn spare_count(tables: &[f32], links: usize, dofs: usize) -> usize
+    ensures { λ r. ⌜ r ≡ spareCount links dofs (now (tables .entry)) ⌝ }
+{
     let mut count = 0;
     let mut i = 0;
     while i < tables.len() {
@@ -285,7 +344,9 @@ fn spare_count(tables: &[f32], links: usize, dofs: usize) -> usize {
 pub const PAST: u32 = 0x4b4b_4b4b;
 
 // How many of the floats past the tables changed.
-fn changed_count(past: &[f32]) -> usize {
+fn changed_count(past: &[f32]) -> usize
+    ensures { λ r. ⌜ r ≡ changedCount (now (past .entry)) ⌝ }
+{
     let mut count = 0;
     let mut i = 0;
     while i < past.len() {
@@ -296,7 +357,9 @@ fn changed_count(past: &[f32]) -> usize {
 }
 
 // What `check` prints.
-pub fn write_check(out: &mut [u8], at: usize, arm: Arm, tables: &[f32]) -> usize {
+pub fn write_check(out: &mut [u8], at: usize, arm: Arm, tables: &[f32]) -> usize
+    ensures { λ r. ⌜ written r (now (out .exit)) ≡ textWritten (now (out .entry)) at (checked arm (now (tables .entry))) ⌝ }
+{
     let links = live_links(arm.link_count);
     let spare = spare_count(some_of(tables, 0, TABLES), links, dof_count(arm));
     let changed = changed_count(some_of(tables, TABLES, 16));

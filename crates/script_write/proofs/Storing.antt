@@ -15,11 +15,11 @@ use Rattle.script_words.proofs.Flags.{both}
 use Rattle.script_write.specs.Writing.{written, wordWritten, glyph, decimalDigits}
 
 module _ (out : List ℕ) (at : ℕ) (word : List ℕ) where
-  pub no-room : length out < at + length word → wordWritten out at word ≡ written at out
+  pub no-room : length out < at + length word → wordWritten (written at out) word ≡ written at out
   unfolding wordWritten
   no-room h = rw (lt-leb (at + length word) (length out) h)
 
-  pub all-stored : at + length word ≤ length out → written (at + length word) (paste out at word (length word)) ≡ wordWritten out at word
+  pub all-stored : at + length word ≤ length out → written (at + length word) (paste out at word (length word)) ≡ wordWritten (written at out) word
   unfolding wordWritten
   all-stored h = rw (le-leb (at + length word) (length out) h, take-length word)
 

@@ -15,13 +15,13 @@ abbrev pub written : ℕ → List ℕ → Written
 written next buffer = record { next = next; buffer = buffer }
 
 -- the bytes in the place of as many, where there are as many
-unfoldable pub wordWritten : List ℕ → ℕ → List ℕ → Written
-wordWritten out at bytes =
-    let next = at + length bytes in
-    cond (leb next (length out)) (written next (take at out ++ bytes ++ drop next out)) (written at out)
+unfoldable pub wordWritten : Written → List ℕ → Written
+wordWritten w bytes =
+    let next = w .next + length bytes in
+    cond (leb next (length (w .buffer))) (written next (take (w .next) (w .buffer) ++ bytes ++ drop next (w .buffer))) w
 
-abbrev pub byteWritten : List ℕ → ℕ → ℕ → Written
-byteWritten out at byte = wordWritten out at (byte ∷ [])
+abbrev pub byteWritten : Written → ℕ → Written
+byteWritten w byte = wordWritten w (byte ∷ [])
 
 -- the digit of a number below 16: `0` to `9`, `a` to `f`
 abbrev pub glyph : ℕ → ℕ
@@ -33,8 +33,8 @@ decimalDigits zero n = glyph (n % 10) ∷ []
 decimalDigits (suc k) n = cond (ltb n 10) [] (decimalDigits k (n / 10)) ++ (glyph (n % 10) ∷ [])
 
 -- in decimal: a number has at most ten digits
-unfoldable pub numberWritten : List ℕ → ℕ → ℕ → Written
-numberWritten out at n = wordWritten out at (decimalDigits 9 n)
+abbrev pub numberWritten : Written → ℕ → Written
+numberWritten w n = wordWritten w (decimalDigits 9 n)
 
 -- the bits of an f32; of the NaN 7fc00000
 unfoldable pub bitsOf : Float → ℕ
@@ -46,5 +46,5 @@ hexDigits zero n = []
 hexDigits (suc k) n = hexDigits k (n / 16) ++ (glyph (n % 16) ∷ [])
 
 -- the eight digits of its bits
-unfoldable pub floatWritten : List ℕ → ℕ → Float → Written
-floatWritten out at x = wordWritten out at (hexDigits 8 (bitsOf x))
+abbrev pub floatWritten : Written → Float → Written
+floatWritten w x = wordWritten w (hexDigits 8 (bitsOf x))

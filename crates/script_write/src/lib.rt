@@ -6,7 +6,7 @@ ghost use Rattle.script_write.specs.Writing.{written, wordWritten, byteW
 
 // A word, as it is.
 pub fn write_word(out: &mut [u8], at: usize, word: &[u8]) -> usize
-    ensures { λ r. ⌜ written r (now (out .exit)) ≡ wordWritten (now (out .entry)) at (now (word .entry)) ⌝ }
+    ensures { λ r. ⌜ written r (now (out .exit)) ≡ wordWritten (written at (now (out .entry))) (now (word .entry)) ⌝ }
 {
     if out.len() < at {
         return at;
@@ -24,7 +24,7 @@ pub fn write_word(out: &mut [u8], at: usize, word: &[u8]) -> usize
 
 // A space, a newline or any other byte.
 pub fn write_byte(out: &mut [u8], at: usize, byte: u8) -> usize
-    ensures { λ r. ⌜ written r (now (out .exit)) ≡ byteWritten (now (out .entry)) at byte ⌝ }
+    ensures { λ r. ⌜ written r (now (out .exit)) ≡ byteWritten (written at (now (out .entry))) byte ⌝ }
 {
     let word = [byte];
     write_word(out, at, &word)
@@ -40,7 +40,7 @@ fn digit_of(d: u32) -> u8
 
 // A number in decimal.
 pub fn write_number(out: &mut [u8], at: usize, number: u32) -> usize
-    ensures { λ r. ⌜ written r (now (out .exit)) ≡ numberWritten (now (out .entry)) at number ⌝ }
+    ensures { λ r. ⌜ written r (now (out .exit)) ≡ numberWritten (written at (now (out .entry))) number ⌝ }
 {
     let mut digits = [0u8; 10];
     let mut first: usize = 9;
@@ -89,7 +89,7 @@ fn hex_digits(bits: u32) -> [u8; 8]
 
 // A float by the eight digits of its bits.
 pub fn write_float(out: &mut [u8], at: usize, x: f32) -> usize
-    ensures { λ r. ⌜ written r (now (out .exit)) ≡ floatWritten (now (out .entry)) at x ⌝ }
+    ensures { λ r. ⌜ written r (now (out .exit)) ≡ floatWritten (written at (now (out .entry))) x ⌝ }
 {
     let digits = hex_digits(bits_of(x));
     write_word(out, at, &digits)

@@ -1,54 +1,57 @@
-use Prim.Native.Nat.{_-_, _≤_, _/_}
-use mathlib.Core.Path.{_≡_}
+-- `write_floats`: the floats so far, in turn. Assumes nothing.
+use Prim.Native.Nat.{_-_, _≤_}
+use mathlib.Core.Path.{_≡_, refl}
+use native.Mathlib.Omega.{arith}
 use lib.ListN.{length}
+use Rattle.script_write.specs.Writing.{written}
+use Rattle.script_answer.specs.Text.{inTurn, textWritten}
+use Rattle.script_answer.specs.Answers.{allFloats, floatAt}
+use Rattle.script_answer.proofs.Turns.{last-turn, next-turn, no-turn}
 use borrow.Author.Needs.{needs}
 use Rattle.script_answer.proofs.write_floats.Statement.{statement}
 use Rattle.script_answer.proofs.write_floats.Tie as tie
-use Rattle.script_answer.proofs.write_floats.Reads as reads
-use Rattle.script_answer.proofs.write_floats.Lts as lts
-use Rattle.script_answer.proofs.write_next_float.Reads as write-next-float-reads
 
 abbrev Inv-loop : tie.InvT-loop
-Inv-loop out₀ at floats next₀ i₀ out next i = (i ≤ length floats) × (length out ≡ length out₀)
+Inv-loop out₀ at floats next₀ i₀ out next i = (i ≤ length floats) × (length out ≡ length out₀) × (written next out ≡ textWritten out₀ at (inTurn i (floatAt floats)))
 
 abbrev μ-loop : tie.MeasureT-loop
 μ-loop out₀ at floats next₀ i₀ out next i = length floats - i
 
--- src/lib.rt:34:5
 loop-holds : tie.Need-loop-holds Inv-loop μ-loop
-loop-holds c = search needs
+loop-holds c =
+    let a = c .before .before .args in
+    (omega arith, refl, no-turn (floatAt (a .floats .now)) (written (a .at) (a .out .now)))
 
--- src/lib.rt:35:44
 mul-write-next-float : tie.Need-mul-write-next-float Inv-loop μ-loop
 mul-write-next-float c = search needs
 
--- src/lib.rt:35:44
 shared-slice-read-write-next-float : tie.Need-shared-slice-read-write-next-float Inv-loop μ-loop
 shared-slice-read-write-next-float c = search needs
 
--- src/lib.rt:35:9
 write-next-float-requires : tie.Need-write-next-float-requires Inv-loop μ-loop
 write-next-float-requires c κs = search needs
 
--- src/lib.rt:36:9
 add-i : tie.Need-add-i Inv-loop μ-loop
 add-i c = search needs
 
--- src/lib.rt:34:5
 loop-less : tie.Need-loop-less Inv-loop μ-loop
 loop-less c = search needs
 
--- src/lib.rt:34:5
 loop-again : tie.Need-loop-again Inv-loop μ-loop
-loop-again c = search needs
+loop-again c =
+    let k = c .before .before .before .before .before .before .loop in
+    let a = c .before .before .before .before .before .before .before .before .before .args in
+    (omega arith, omega arith, next-turn (floatAt (a .floats .now)) (written (a .at) (a .out .now)) (k .i) (k .inv .2) (c .before .before .write-next-float .ensures))
 
--- src/lib.rt:31:1
 same-length : tie.Need-same-length Inv-loop μ-loop
 same-length c = search needs
 
--- src/lib.rt:31:1
 returns : tie.Need-returns Inv-loop μ-loop
-returns c = search needs
+unfolding allFloats
+returns c =
+    let k = c .before .loop in
+    let a = c .before .before .before .before .args in
+    last-turn (floatAt (a .floats .now)) (written (a .at) (a .out .now)) (k .i) (length (a .floats .now)) (omega arith) (omega arith) (k .inv .2)
 
 pub write-floats-spec : {M : Type 1} → statement M
 write-floats-spec =

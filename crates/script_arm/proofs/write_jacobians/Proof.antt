@@ -1,56 +1,66 @@
+-- `write_jacobians`: the blocks so far, in turn. Assumes nothing.
 use Prim.Native.Nat.{_-_, _≤_}
-use mathlib.Core.Path.{_≡_}
+use mathlib.Core.Path.{_≡_, refl}
+use native.Mathlib.Omega.{arith}
 use lib.ListN.{length}
+use Rattle.script_write.specs.Writing.{written}
+use Rattle.script_answer.specs.Text.{inTurn, textWritten}
+use Rattle.script_answer.proofs.Turns.{last-turn, next-turn, no-turn}
+use Rattle.script_arm.specs.Kept.{blockLines, blockText}
 use borrow.Author.Needs.{needs}
 use Rattle.script_arm.proofs.write_jacobians.Statement.{statement}
 use Rattle.script_arm.proofs.write_jacobians.Tie as tie
-use Rattle.script_arm.proofs.write_jacobians.Reads as reads
-use Rattle.script_arm.proofs.write_jacobians.Lts as lts
-use Rattle.arm.proofs.dof_count.Reads as dof-count-reads
-use Rattle.arm.proofs.live_links.Reads as live-links-reads
-use Rattle.script_arm.proofs.write_jacobian.Reads as write-jacobian-reads
 
 abbrev Inv-loop : tie.InvT-loop
-Inv-loop out₀ at tables n dofs next₀ i₀ out next i = (n ≤ 16) × (i ≤ n) × (length out ≡ length out₀)
+Inv-loop out₀ at tables n dofs next₀ i₀ out next i = (n ≤ 16) × (i ≤ n) × (length out ≡ length out₀) × (written next out ≡ textWritten out₀ at (inTurn i (blockText tables dofs)))
 
 abbrev μ-loop : tie.MeasureT-loop
 μ-loop out₀ at tables n dofs next₀ i₀ out next i = n - i
 
--- src/lib.rt:244:9
 live-links-requires : tie.Need-live-links-requires Inv-loop μ-loop
 live-links-requires c κs = search needs
 
--- src/lib.rt:245:9
 dof-count-requires : tie.Need-dof-count-requires Inv-loop μ-loop
 dof-count-requires c κs = search needs
 
--- src/lib.rt:248:5
 loop-holds : tie.Need-loop-holds Inv-loop μ-loop
-loop-holds c = search needs
+loop-holds c =
+    let d = c .dof-count in
+    let a = c .before .before .before .before .args in
+    (omega arith, omega arith, refl, no-turn (blockText (a .tables .now) (d .result)) (written (a .at) (a .out .now)))
 
--- src/lib.rt:249:9
 write-jacobian-requires : tie.Need-write-jacobian-requires Inv-loop μ-loop
 write-jacobian-requires c κs = search needs
 
--- src/lib.rt:250:9
 add-i : tie.Need-add-i Inv-loop μ-loop
 add-i c = search needs
 
--- src/lib.rt:248:5
 loop-less : tie.Need-loop-less Inv-loop μ-loop
 loop-less c = search needs
 
--- src/lib.rt:248:5
 loop-again : tie.Need-loop-again Inv-loop μ-loop
-loop-again c = search needs
+loop-again c =
+    let k = c .before .before .before .before .before .loop in
+    let d = c .before .before .before .before .before .before .dof-count in
+    let a = c .before .before .before .before .before .before .before .before .before .before .args in (
+      omega arith,
+      omega arith,
+      omega arith,
+      next-turn (blockText (a .tables .now) (d .result)) (written (a .at) (a .out .now)) (k .i) (k .inv .3) (c .before .before .write-jacobian .ensures),
+    )
 
--- src/lib.rt:243:1
 same-length : tie.Need-same-length Inv-loop μ-loop
 same-length c = search needs
 
--- src/lib.rt:243:1
 returns : tie.Need-returns Inv-loop μ-loop
-returns c = search needs
+unfolding blockLines
+returns c =
+    let k = c .before .loop in
+    let d = c .before .before .dof-count in
+    let n = c .before .before .before .live-links in
+    let a = c .before .before .before .before .before .before .args in
+    rw (← n .ensures, ← d .ensures)
+    (last-turn (blockText (a .tables .now) (d .result)) (written (a .at) (a .out .now)) (k .i) (n .result) (omega arith) (omega arith) (k .inv .3))
 
 pub write-jacobians-spec : {M : Type 1} → statement M
 write-jacobians-spec =

@@ -1,7 +1,6 @@
 -- `write_float`: a word of the eight digits of the bits. Assumes nothing.
 use mathlib.Core.Path.{_∙_}
 use borrow.Author.Needs.{needs}
-use Rattle.script_write.specs.Writing.{floatWritten}
 use Rattle.script_write.proofs.write_float.Statement.{statement}
 use Rattle.script_write.proofs.write_float.Tie as tie
 
@@ -21,7 +20,6 @@ same-length : tie.Need-same-length
 same-length c = search needs
 
 returns : tie.Need-returns
-unfolding floatWritten
 returns c = c .before .before .write-word .ensures ∙ rw (c .before .before .before .before .before .hex-digits .ensures, c .before .before .before .before .before .before .bits-of .ensures)
 
 pub write-float-spec : {M : Type 1} → statement M

@@ -6,7 +6,7 @@ use Prim.Native.Nat.{_+_, _≤_}
 use mathlib.Core.Path.{_≡_, refl, _∙_, ap, sym}
 use borrow.Author.Needs.{needs}
 use Rattle.script_write.proofs.Storing.{all-digits, more-digits, next-digit}
-use Rattle.script_write.specs.Writing.{numberWritten, wordWritten, decimalDigits}
+use Rattle.script_write.specs.Writing.{decimalDigits, wordWritten, written}
 use Rattle.script_write.proofs.write_number.Statement.{statement}
 use Rattle.script_write.proofs.write_number.Tie as tie
 
@@ -69,13 +69,12 @@ same-length : tie.Need-same-length Inv-loop μ-loop
 same-length c = search needs
 
 returns : tie.Need-returns Inv-loop μ-loop
-unfolding numberWritten
 returns c =
     let k = c .before .before .before .before .before .before .before .before .loop in
     let a = c .before .before .before .before .before .before .before .before .before .before .args in
     let i = k .inv in
     c .before .before .write-word .ensures
-    ∙ ap (wordWritten (a .out .now) (a .at))
+    ∙ ap (wordWritten (written (a .at) (a .out .now)))
     (rw (c .before .before .before .before .before .before .digit-of2 .ensures)
     (all-digits (a .number) (k .first) (k .rest) (k .digits) (i .1) (i .0) (c .before .before .before .before .before .before .before .loop-test .left) (i .2)))
 

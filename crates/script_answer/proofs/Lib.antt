@@ -1,0 +1,4 @@
+pub mod Behind
+pub mod Examples
+pub mod Turns
+pub mod Whole

@@ -1,0 +1,3 @@
+pub mod Dump
+pub mod Kept
+pub mod Check
