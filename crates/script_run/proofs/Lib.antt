@@ -1,3 +1,6 @@
 pub mod Pieces
 pub mod Orders
 pub mod Turns
+pub mod Held
+pub mod Telling
+pub mod Theorems

@@ -71,7 +71,7 @@ module _ (piece : List ℕ) (s : Stand) where
   unfolding goesOn
   all-read h = rw (le-ltb (s .read) (length piece) h)
 
-  more-to-read : goesOn piece s ≡ true → s .read < length piece
+  pub more-to-read : goesOn piece s ≡ true → s .read < length piece
   unfolding goesOn
   more-to-read e = ltb-true (s .read) (length piece) (both (ltb (s .read) (length piece)) (hasRoom (s .said)) e .0)
 

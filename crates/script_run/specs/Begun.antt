@@ -43,13 +43,16 @@ pub record Ended : Type 0 where
 abbrev pub ended : Line → List ℕ → List ℕ → Ended
 ended kind line held = record { kind = kind; line = line; held = held }
 
--- with its last piece, which is all of it where none was held
+-- where nothing was held, the piece is all of it
+abbrev pub endedNow : List ℕ → List ℕ → Ended
+endedNow piece held = ended (kindOf (seenAfter seen.Nothing piece) (length piece)) piece held
+
+abbrev pub endedHeld : Held → Ended
+endedHeld h = ended (kindOf (h .line .seen) (h .line .length)) (take (h .line .length) (h .bytes)) (h .bytes)
+
+-- with its last piece
 unfoldable pub lineEnded : Begun → List ℕ → List ℕ → Ended
-lineEnded line piece held =
-    let h = heldMore line piece held in
-    cond (eqb (line .length) 0)
-    (ended (kindOf (seenAfter seen.Nothing piece) (length piece)) piece held)
-    (ended (kindOf (h .line .seen) (h .line .length)) (take (h .line .length) (h .bytes)) (h .bytes))
+lineEnded line piece held = cond (eqb (line .length) 0) (endedNow piece held) (endedHeld (heldMore line piece held))
 
 -- its order, and what the memory for lists and for the line then holds
 pub record Taken : Type 0 where

@@ -1,0 +1,73 @@
+-- A text played, line by line: what `replay` prints for it. That it makes no difference how the text comes in pieces is shown in proofs/Theorems.antt.
+use Prim.Native.Nat.{ℕ, _+_, _≤_, min}
+use mathlib.Core.Path.{_≡_}
+use mathlib.Core.Bool.{cond}
+use mathlib.Core.List.{List, [], _∷_, _++_}
+use lib.Dec.{eqb}
+use lib.ListN.{drop, length, replicate, take}
+use Rattle.floats.specs.Floats.{zero32}
+use Rattle.script_words.specs.declared.Seen.the-variants as seen
+use Rattle.script_words.specs.Lines.{longestLine, newline, seenAfter}
+use Rattle.script_write.specs.Writing.{Written}
+use Rattle.script_answer.specs.Text.{Text, textAfter}
+use Rattle.script_session.specs.Lent.{allLent, begun}
+use Rattle.script_run.specs.declared.Begun.{Begun}
+use Rattle.script_run.specs.Played.{Session, linePlayed, session}
+use Rattle.script_run.specs.Run.{Stand}
+
+-- the answers to a text's lines, the line that has begun when it ends, and the session then
+pub record Told : Type 0 where
+  pub answers : List Text
+  pub line : List ℕ
+  pub after : Session
+
+abbrev pub told : List Text → List ℕ → Session → Told
+told answers line after = record { answers = answers; line = line; after = after }
+
+abbrev pub behindAnswers : List Text → Told → Told
+behindAnswers answers t = told (answers ++ t .answers) (t .line) (t .after)
+
+-- a text, behind the first bytes of a line
+unfoldable pub tell : List ℕ → List ℕ → Session → Told
+tell line [] s = told [] line s
+tell line (byte ∷ text) s =
+    let p = linePlayed line s in
+    cond (eqb byte newline) (behindAnswers (p .text ∷ []) (tell [] text (p .after))) (tell (line ++ (byte ∷ [])) text s)
+
+-- a run begins as after `new`
+unfoldable pub firstSession : Session
+firstSession =
+    let e = begun (replicate 2320 zero32) in
+    session (e .answer .arm) allLent (e .memory) (replicate 2304 zero32) (replicate 16384 zero32) (replicate 16384 0) (replicate 16384 0)
+
+-- what `replay` prints for a text: an answer to each line, the last of which ends with the text
+unfoldable pub replayed : List ℕ → List Text
+replayed text = tell [] (text ++ (newline ∷ [])) firstSession .answers
+
+-- ---- a text in pieces
+
+-- answers written one behind the other
+unfoldable pub allAfter : List Text → Written → Written
+allAfter [] w = w
+allAfter (t ∷ ts) w = allAfter ts (textAfter t w)
+
+-- what is held of a line that has these bytes: all of them, unless it is too long
+pub record Holds (bytes : List ℕ) (line : Begun) (held : List ℕ) : Type 0 where
+  pub room : longestLine ≤ length held
+  pub shown : line .seen ≡ seenAfter seen.Nothing bytes
+  pub size : min (line .length) (longestLine + 1) ≡ min (length bytes) (longestLine + 1)
+  pub kept : length bytes ≤ longestLine → take (length bytes) held ≡ bytes
+
+-- from one stand in a piece to a later one: answers were written, and what is still to be told is told from there
+pub record Through (piece line : List ℕ) (s t : Stand) : Type 0 where
+  pub begun : List ℕ
+  pub answers : List Text
+  pub holds : Holds begun (t .line) (t .held)
+  pub written : t .said ≡ allAfter answers (s .said)
+  pub same : tell line (drop (s .read) piece) (s .now) ≡ behindAnswers answers (tell begun (drop (t .read) piece) (t .now))
+
+-- a piece is read to its end: the answers of what was told, its session, and the line that has begun
+pub record Finished (t : Told) (s after : Stand) : Type 0 where
+  pub holds : Holds (t .line) (after .line) (after .held)
+  pub now : after .now ≡ t .after
+  pub written : after .said ≡ allAfter (t .answers) (s .said)
