@@ -3,4 +3,5 @@ pub mod Orders
 pub mod Turns
 pub mod Held
 pub mod Telling
+pub mod Printed
 pub mod Theorems

@@ -14,15 +14,16 @@ use Rattle.script_words.specs.Lines.{longestLine, newline}
 use Rattle.script_answer.specs.Text.{textAfter}
 use Rattle.script_run.specs.Played.{Played, linePlayed, lineTaken}
 use Rattle.script_run.specs.Begun.{heldMore, lineEnded, noLine}
-use Rattle.script_run.specs.Run.{Stand, goesOn, heldTurn, lineTurn, pieceAfter, turn, turns}
-use Rattle.script_run.specs.Told.{Finished, Holds, Through, Told, allAfter, behindAnswers, tell, told}
+use Rattle.script_run.specs.Run.{Stand, goesOn, hasRoom, heldTurn, lineTurn, pieceAfter, turn, turns}
+use Rattle.script_run.specs.Told.{Finished, Holds, Through, Told, allAfter, behindAnswers, soFar, tell, told}
 use Rattle.script_run.proofs.Held.{ended-length, holds-more, holds-none, line-ended}
 use Rattle.script_run.proofs.Telling.{all-both, behind-both, tell-line, tell-rest}
-use Rattle.script_run.proofs.Turns.{more-to-read}
+use Rattle.script_run.proofs.Turns.{more-to-read, still-room}
+use Rattle.script_run.proofs.Printed.{answer-printed, none-printed, printed-both}
 
 -- ---- one turn
 
-module _ (piece line : List ℕ) (s : Stand) (h : Holds line (s .line) (s .held)) where
+module _ (piece line : List ℕ) (s : Stand) (h : Holds line (s .line) (s .held)) (room : hasRoom (s .said) ≡ true) where
   at-line : s .read + bytesBefore newline (drop (s .read) piece) < length piece
       → Through piece line s (lineTurn s (take (bytesBefore newline (drop (s .read) piece)) (drop (s .read) piece)) (s .read + bytesBefore newline (drop (s .read) piece) + 1))
   unfolding lineTurn allAfter
@@ -40,6 +41,7 @@ module _ (piece line : List ℕ) (s : Stand) (h : Holds line (s .line) (s .held)
         answers = p .text ∷ [];
         holds = holds-none (e .held) (omega (arith, l, h .room));
         written = refl;
+        printed = answer-printed (p .text) (s .said) room;
         same = rw (q, ← d) (tell-line line r (s .now) (omega (arith, k, w)));
       }
 
@@ -53,6 +55,7 @@ module _ (piece line : List ℕ) (s : Stand) (h : Holds line (s .line) (s .held)
         answers = [];
         holds = holds-more line (drop (s .read) piece) (s .line) (s .held) h;
         written = refl;
+        printed = λ f. none-printed (soFar (s .said));
         same = rw (drop-length piece) (tell-rest line (drop (s .read) piece) (s .now) (omega (arith, k, w)));
       }
 
@@ -69,7 +72,7 @@ module _ (piece line : List ℕ) (s : Stand) (h : Holds line (s .line) (s .held)
 
 stay : (piece line : List ℕ) (s : Stand) → Holds line (s .line) (s .held) → Through piece line s s
 unfolding allAfter
-stay piece line s h = record { begun = line; answers = []; holds = h; written = refl; same = refl }
+stay piece line s h = record { begun = line; answers = []; holds = h; written = refl; printed = λ f. none-printed (soFar (s .said)); same = refl }
 
 onward : (piece line : List ℕ) (s t u : Stand) (a : Through piece line s t) → Through piece (a .begun) t u → Through piece line s u
 onward piece line s t u a b = record {
@@ -77,6 +80,7 @@ onward piece line s t u a b = record {
   answers = a .answers ++ b .answers;
   holds = b .holds;
   written = b .written ∙ ap (allAfter (b .answers)) (a .written) ∙ sym (all-both (a .answers) (b .answers) (s .said));
+  printed = printed-both (a .answers) (b .answers) (soFar (s .said)) (soFar (t .said)) (soFar (u .said)) (a .printed) (b .printed);
   same = a .same ∙ ap (behindAnswers (a .answers)) (b .same) ∙ behind-both (a .answers) (b .answers) (tell (b .begun) (drop (u .read) piece) (u .now));
 }
 
@@ -90,7 +94,7 @@ through-turns zero piece line s h = stay piece line s h
 through-turns (suc k) piece line s h =
     gone (goesOn piece s) piece line s (turns k piece (turn piece s)) (stay piece line s h)
     λ g.
-      let a = the-turn piece line s h (more-to-read piece s g) in
+      let a = the-turn piece line s h (still-room piece s g) (more-to-read piece s g) in
       onward piece line s (turn piece s) (turns k piece (turn piece s)) a (through-turns k piece (a .begun) (turn piece s) (a .holds))
 
 pub the-piece : (piece line : List ℕ) (s : Stand) → Holds line (s .line) (s .held) → Through piece line s (pieceAfter piece s)
@@ -107,4 +111,4 @@ the-whole-piece piece line s h r =
     let u = pieceAfter piece s in
     let d : behindAnswers (t .answers) (tell (t .begun) (drop (u .read) piece) (u .now)) ≡ told (t .answers) (t .begun) (u .now) =
       rw (drop-of-length-le piece r, append-nil (t .answers)) in
-    rw (t .same, d) (record { holds = t .holds; now = refl; written = t .written })
+    rw (t .same, d) (record { holds = t .holds; now = refl; written = t .written; printed = t .printed })

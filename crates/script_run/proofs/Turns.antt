@@ -75,6 +75,10 @@ module _ (piece : List ℕ) (s : Stand) where
   unfolding goesOn
   more-to-read e = ltb-true (s .read) (length piece) (both (ltb (s .read) (length piece)) (hasRoom (s .said)) e .0)
 
+  pub still-room : goesOn piece s ≡ true → hasRoom (s .said) ≡ true
+  unfolding goesOn
+  still-room e = both (ltb (s .read) (length piece)) (hasRoom (s .said)) e .1
+
 -- ---- as many turns as bytes are enough
 
 read-on : (piece : List ℕ) (s : Stand) → s .read < length piece → s .read < turn piece s .read

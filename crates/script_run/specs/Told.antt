@@ -1,19 +1,19 @@
 -- A text played, line by line: what `replay` prints for it. That it makes no difference how the text comes in pieces is shown in proofs/Theorems.antt.
 use Prim.Native.Nat.{ℕ, _+_, _≤_, min}
 use mathlib.Core.Path.{_≡_}
-use mathlib.Core.Bool.{cond}
+use mathlib.Core.Bool.{Bool, true, cond, _&&_}
 use mathlib.Core.List.{List, [], _∷_, _++_}
-use lib.Dec.{eqb}
+use lib.Dec.{eqb, leb}
 use lib.ListN.{drop, length, replicate, take}
 use Rattle.floats.specs.Floats.{zero32}
 use Rattle.script_words.specs.declared.Seen.the-variants as seen
 use Rattle.script_words.specs.Lines.{longestLine, newline, seenAfter}
 use Rattle.script_write.specs.Writing.{Written}
-use Rattle.script_answer.specs.Text.{Text, textAfter}
+use Rattle.script_answer.specs.Text.{Text, bytesOf, textAfter}
 use Rattle.script_session.specs.Lent.{allLent, begun}
 use Rattle.script_run.specs.declared.Begun.{Begun}
 use Rattle.script_run.specs.Played.{Session, linePlayed, session}
-use Rattle.script_run.specs.Run.{Stand}
+use Rattle.script_run.specs.Run.{Stand, longestAnswer}
 
 -- the answers to a text's lines, the line that has begun when it ends, and the session then
 pub record Told : Type 0 where
@@ -40,9 +40,14 @@ firstSession =
     let e = begun (replicate 2320 zero32) in
     session (e .answer .arm) allLent (e .memory) (replicate 2304 zero32) (replicate 16384 zero32) (replicate 16384 0) (replicate 16384 0)
 
+-- all bytes of answers
+unfoldable pub allBytes : List Text → List ℕ
+allBytes [] = []
+allBytes (t ∷ ts) = bytesOf t ++ allBytes ts
+
 -- what `replay` prints for a text: an answer to each line, the last of which ends with the text
-unfoldable pub replayed : List ℕ → List Text
-replayed text = tell [] (text ++ (newline ∷ [])) firstSession .answers
+unfoldable pub replayed : List ℕ → List ℕ
+replayed text = allBytes (tell [] (text ++ (newline ∷ [])) firstSession .answers)
 
 -- ---- a text in pieces
 
@@ -50,6 +55,15 @@ replayed text = tell [] (text ++ (newline ∷ [])) firstSession .answers
 unfoldable pub allAfter : List Text → Written → Written
 allAfter [] w = w
 allAfter (t ∷ ts) w = allAfter ts (textAfter t w)
+
+-- no answer is longer than there is room for
+unfoldable pub allFit : List Text → Bool
+allFit [] = true
+allFit (t ∷ ts) = leb (length (bytesOf t)) longestAnswer && allFit ts
+
+-- what stands in a buffer so far
+abbrev pub soFar : Written → List ℕ
+soFar w = take (w .next) (w .buffer)
 
 -- what is held of a line that has these bytes: all of them, unless it is too long
 pub record Holds (bytes : List ℕ) (line : Begun) (held : List ℕ) : Type 0 where
@@ -64,6 +78,7 @@ pub record Through (piece line : List ℕ) (s t : Stand) : Type 0 where
   pub answers : List Text
   pub holds : Holds begun (t .line) (t .held)
   pub written : t .said ≡ allAfter answers (s .said)
+  pub printed : allFit answers ≡ true → soFar (t .said) ≡ soFar (s .said) ++ allBytes answers
   pub same : tell line (drop (s .read) piece) (s .now) ≡ behindAnswers answers (tell begun (drop (t .read) piece) (t .now))
 
 -- a piece is read to its end: the answers of what was told, its session, and the line that has begun
@@ -71,3 +86,4 @@ pub record Finished (t : Told) (s after : Stand) : Type 0 where
   pub holds : Holds (t .line) (after .line) (after .held)
   pub now : after .now ≡ t .after
   pub written : after .said ≡ allAfter (t .answers) (s .said)
+  pub printed : allFit (t .answers) ≡ true → soFar (after .said) ≡ soFar (s .said) ++ allBytes (t .answers)
