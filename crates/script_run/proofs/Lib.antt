@@ -5,3 +5,4 @@ pub mod Held
 pub mod Telling
 pub mod Printed
 pub mod Theorems
+pub mod Runs

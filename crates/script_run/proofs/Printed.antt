@@ -37,12 +37,12 @@ and-assoc : (a b c : Bool) → ((a && b) && c) ≡ (a && (b && c))
 and-assoc true b c = refl
 and-assoc false b c = refl
 
-fit-both : (xs ys : List Text) → allFit (xs ++ ys) ≡ (allFit xs && allFit ys)
+pub fit-both : (xs ys : List Text) → allFit (xs ++ ys) ≡ (allFit xs && allFit ys)
 unfolding allFit
 fit-both [] ys = refl
 fit-both (x ∷ xs) ys = ap (λ (b : Bool). leb (length (bytesOf x)) longestAnswer && b) (fit-both xs ys) ∙ sym (and-assoc (leb (length (bytesOf x)) longestAnswer) (allFit xs) (allFit ys))
 
-bytes-both : (xs ys : List Text) → allBytes (xs ++ ys) ≡ allBytes xs ++ allBytes ys
+pub bytes-both : (xs ys : List Text) → allBytes (xs ++ ys) ≡ allBytes xs ++ allBytes ys
 unfolding allBytes
 bytes-both [] ys = refl
 bytes-both (x ∷ xs) ys = ap (λ (b : List ℕ). bytesOf x ++ b) (bytes-both xs ys) ∙ sym (append-assoc (bytesOf x) (allBytes xs) (allBytes ys))

@@ -24,20 +24,20 @@ more c xs = cond (not c) (suc (bytesBefore newline xs)) 0
 -- up to the first newline
 pub tell-line : (b rest : List ℕ) (s : Session) → bytesBefore newline rest < length rest
     → tell b rest s
-      ≡ behindAnswers (linePlayed (b ++ take (bytesBefore newline rest) rest) s .text ∷ [])
-        (tell [] (drop (bytesBefore newline rest + 1) rest) (linePlayed (b ++ take (bytesBefore newline rest) rest) s .after))
+    ≡ behindAnswers (linePlayed (b ++ take (bytesBefore newline rest) rest) s .text ∷ [])
+    (tell [] (drop (bytesBefore newline rest + 1) rest) (linePlayed (b ++ take (bytesBefore newline rest) rest) s .after))
 unfolding tell run
 tell-line b [] s h = absurd (omega (arith, h))
 tell-line b (x ∷ xs) s h = go (eqb x newline) h (tell-line (b ++ (x ∷ [])) xs s)
   where
     go : (c : Bool) → more c xs < suc (length xs)
         → (bytesBefore newline xs < length xs
-            → tell (b ++ (x ∷ [])) xs s
-              ≡ behindAnswers (linePlayed ((b ++ (x ∷ [])) ++ take (bytesBefore newline xs) xs) s .text ∷ [])
-                (tell [] (drop (bytesBefore newline xs + 1) xs) (linePlayed ((b ++ (x ∷ [])) ++ take (bytesBefore newline xs) xs) s .after)))
+        → tell (b ++ (x ∷ [])) xs s
+        ≡ behindAnswers (linePlayed ((b ++ (x ∷ [])) ++ take (bytesBefore newline xs) xs) s .text ∷ [])
+        (tell [] (drop (bytesBefore newline xs + 1) xs) (linePlayed ((b ++ (x ∷ [])) ++ take (bytesBefore newline xs) xs) s .after)))
         → cond c (behindAnswers (linePlayed b s .text ∷ []) (tell [] xs (linePlayed b s .after))) (tell (b ++ (x ∷ [])) xs s)
-          ≡ behindAnswers (linePlayed (b ++ take (more c xs) (x ∷ xs)) s .text ∷ [])
-            (tell [] (drop (more c xs + 1) (x ∷ xs)) (linePlayed (b ++ take (more c xs) (x ∷ xs)) s .after))
+        ≡ behindAnswers (linePlayed (b ++ take (more c xs) (x ∷ xs)) s .text ∷ [])
+        (tell [] (drop (more c xs + 1) (x ∷ xs)) (linePlayed (b ++ take (more c xs) (x ∷ xs)) s .after))
     go true k f = rw (append-nil b)
     go false k f = rw (add-one) (rw (one-more b x (take (bytesBefore newline xs) xs), add-one) at f (omega (arith, k)))
 
@@ -75,10 +75,10 @@ tell-both b (x ∷ xs) q s = go (eqb x newline) (tell-both [] xs q (linePlayed b
   where
     go : (c : Bool)
         → tell [] (xs ++ q) (linePlayed b s .after)
-          ≡ behindAnswers (tell [] xs (linePlayed b s .after) .answers) (tell (tell [] xs (linePlayed b s .after) .line) q (tell [] xs (linePlayed b s .after) .after))
+        ≡ behindAnswers (tell [] xs (linePlayed b s .after) .answers) (tell (tell [] xs (linePlayed b s .after) .line) q (tell [] xs (linePlayed b s .after) .after))
         → tell (b ++ (x ∷ [])) (xs ++ q) s
-          ≡ behindAnswers (tell (b ++ (x ∷ [])) xs s .answers) (tell (tell (b ++ (x ∷ [])) xs s .line) q (tell (b ++ (x ∷ [])) xs s .after))
+        ≡ behindAnswers (tell (b ++ (x ∷ [])) xs s .answers) (tell (tell (b ++ (x ∷ [])) xs s .line) q (tell (b ++ (x ∷ [])) xs s .after))
         → cond c (behindAnswers (linePlayed b s .text ∷ []) (tell [] (xs ++ q) (linePlayed b s .after))) (tell (b ++ (x ∷ [])) (xs ++ q) s)
-          ≡ behindAnswers (by c b x xs s .answers) (tell (by c b x xs s .line) q (by c b x xs s .after))
+        ≡ behindAnswers (by c b x xs s .answers) (tell (by c b x xs s .line) q (by c b x xs s .after))
     go true f g = ap (behindAnswers (linePlayed b s .text ∷ [])) f
     go false f g = g

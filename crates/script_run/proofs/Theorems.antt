@@ -94,8 +94,8 @@ through-turns zero piece line s h = stay piece line s h
 through-turns (suc k) piece line s h =
     gone (goesOn piece s) piece line s (turns k piece (turn piece s)) (stay piece line s h)
     λ g.
-      let a = the-turn piece line s h (still-room piece s g) (more-to-read piece s g) in
-      onward piece line s (turn piece s) (turns k piece (turn piece s)) a (through-turns k piece (a .begun) (turn piece s) (a .holds))
+    let a = the-turn piece line s h (still-room piece s g) (more-to-read piece s g) in
+    onward piece line s (turn piece s) (turns k piece (turn piece s)) a (through-turns k piece (a .begun) (turn piece s) (a .holds))
 
 pub the-piece : (piece line : List ℕ) (s : Stand) → Holds line (s .line) (s .held) → Through piece line s (pieceAfter piece s)
 unfolding pieceAfter
@@ -110,5 +110,5 @@ the-whole-piece piece line s h r =
     let t = the-piece piece line s h in
     let u = pieceAfter piece s in
     let d : behindAnswers (t .answers) (tell (t .begun) (drop (u .read) piece) (u .now)) ≡ told (t .answers) (t .begun) (u .now) =
-      rw (drop-of-length-le piece r, append-nil (t .answers)) in
+    rw (drop-of-length-le piece r, append-nil (t .answers)) in
     rw (t .same, d) (record { holds = t .holds; now = refl; written = t .written; printed = t .printed })

@@ -8,12 +8,13 @@ use lib.ListN.{drop, length, replicate, take}
 use Rattle.floats.specs.Floats.{zero32}
 use Rattle.script_words.specs.declared.Seen.the-variants as seen
 use Rattle.script_words.specs.Lines.{longestLine, newline, seenAfter}
-use Rattle.script_write.specs.Writing.{Written}
+use Rattle.script_write.specs.Writing.{Written, written}
 use Rattle.script_answer.specs.Text.{Text, bytesOf, textAfter}
 use Rattle.script_session.specs.Lent.{allLent, begun}
 use Rattle.script_run.specs.declared.Begun.{Begun}
+use Rattle.script_run.specs.Begun.{noLine}
 use Rattle.script_run.specs.Played.{Session, linePlayed, session}
-use Rattle.script_run.specs.Run.{Stand, longestAnswer}
+use Rattle.script_run.specs.Run.{Stand, longestAnswer, pieceAfter, stand}
 
 -- the answers to a text's lines, the line that has begun when it ends, and the session then
 pub record Told : Type 0 where
@@ -87,3 +88,30 @@ pub record Finished (t : Told) (s after : Stand) : Type 0 where
   pub now : after .now ≡ t .after
   pub written : after .said ≡ allAfter (t .answers) (s .said)
   pub printed : allFit (t .answers) ≡ true → soFar (after .said) ≡ soFar (s .said) ++ allBytes (t .answers)
+
+-- ---- a run
+
+-- a call of `play_piece` into an empty buffer
+abbrev pub call : List ℕ → List ℕ → Stand → Stand
+call piece out s = pieceAfter piece (stand (s .now) (s .line) (s .held) (s .read) (written 0 out))
+
+-- before the next piece
+abbrev pub fromStart : Stand → Stand
+fromStart s = stand (s .now) (s .line) (s .held) 0 (s .said)
+
+-- the pieces of a text, each played by calls until it is read to its end; what a call wrote is printed
+pub data Prints : List (List ℕ) → Stand → List ℕ → Stand → Type 0 where
+  nothingMore : (s : Stand) → Prints [] s [] s
+  aCall : (piece : List ℕ) (pieces : List (List ℕ)) (s t : Stand) (out bytes : List ℕ)
+      → Prints (piece ∷ pieces) (call piece out s) bytes t → Prints (piece ∷ pieces) s (soFar (call piece out s .said) ++ bytes) t
+  nextPiece : (piece : List ℕ) (pieces : List (List ℕ)) (s t : Stand) (bytes : List ℕ)
+      → length piece ≤ s .read → Prints pieces (fromStart s) bytes t → Prints (piece ∷ pieces) s bytes t
+
+-- where a run begins, with any memory for lines
+abbrev pub firstStand : List ℕ → Written → Stand
+firstStand held said = stand firstSession noLine held 0 said
+
+-- a text in one
+unfoldable pub joined : List (List ℕ) → List ℕ
+joined [] = []
+joined (piece ∷ pieces) = piece ++ joined pieces
