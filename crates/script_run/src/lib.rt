@@ -1,5 +1,11 @@
 // A run of the replay script: its text comes in pieces, and its lines are played one after the other.
 ghost use mathlib.Core.Path.{_≡_};
+ghost use lib.ListN.{take};
+ghost use Rattle.script_write.specs.Writing.{written};
+ghost use Rattle.script_order.specs.Orders.{ordered};
+ghost use Rattle.script_run.specs.Begun.{heldMore, holding, lineEnded, noLine, orderTaken, taken};
+ghost use Rattle.script_run.specs.Begun as begun;
+ghost use Rattle.script_run.specs.Run.{hasRoom, pieceAfter, standing};
 use arm::Arm;
 use script_answer::write_status;
 use script_order::Order;
@@ -27,7 +33,9 @@ pub struct Begun {
     pub length: usize,
 }
 
-pub fn no_line() -> Begun {
+pub fn no_line() -> Begun
+    ensures { λ r. ⌜ r ≡ noLine ⌝ }
+{
     Begun {
         seen: Seen::Nothing,
         length: 0,
@@ -35,7 +43,9 @@ pub fn no_line() -> Begun {
 }
 
 // The length of a line with one more piece; of one that is too long any such length.
-fn longer(length: usize, more: usize) -> usize {
+fn longer(length: usize, more: usize) -> usize
+    ensures { λ r. ⌜ r ≡ begun.longer length more ⌝ }
+{
     if LONGEST_LINE < length {
         return length;
     }
@@ -46,7 +56,9 @@ fn longer(length: usize, more: usize) -> usize {
 }
 
 // One more piece of a line, which goes into `held` as far as the line is read.
-fn held_more(line: Begun, piece: &[u8], held: &mut [u8]) -> Begun {
+fn held_more(line: Begun, piece: &[u8], held: &mut [u8]) -> Begun
+    ensures { λ r. ⌜ holding r (now (held .exit)) ≡ heldMore line (now (piece .entry)) (now (held .entry)) ⌝ }
+{
     let seen = line.seen;
     write_word(held, line.length, piece);
     Begun {
@@ -55,7 +67,9 @@ fn held_more(line: Begun, piece: &[u8], held: &mut [u8]) -> Begun {
     }
 }
 
-fn first(s: &[u8], n: usize) -> &[u8] {
+fn first(s: &[u8], n: usize) -> &[u8]
+    ensures { λ r. ⌜ now r ≡ take n (now (s .entry)) ⌝ }
+{
     if n < s.len() { &s[0..n] } else { s }
 }
 
@@ -66,7 +80,9 @@ fn order_ended(
     held: &mut [u8],
     list: &mut [f32],
     masks: &mut [u8],
-) -> Order {
+) -> Order
+    ensures { λ r. ⌜ taken (ordered r (now (list .exit)) (now (masks .exit))) (now (held .exit)) ≡ orderTaken (lineEnded line (now (piece .entry)) (now (held .entry))) (now (list .entry)) (now (masks .entry)) ⌝ }
+{
     if line.length == 0 {
         let seen = seen_after(Seen::Nothing, piece);
         return order_of(kind_of(seen, piece.len()), piece, list, masks);
@@ -86,7 +102,9 @@ pub struct Run {
     pub written: usize,
 }
 
-fn has_room(out: &[u8], at: usize) -> bool {
+fn has_room(out: &[u8], at: usize) -> bool
+    ensures { λ r. ⌜ r ≡ hasRoom (written at (now (out .entry))) ⌝ }
+{
     if at <= out.len() {
         return LONGEST_ANSWER <= out.len() - at;
     }
@@ -105,7 +123,9 @@ pub fn play_piece(
     masks: &mut [u8],
     places: &mut [u8],
     out: &mut [u8],
-) -> Run {
+) -> Run
+    ensures { λ r. ⌜ standing r (now (held .exit)) (now (tables .exit)) (now (mass .exit)) (now (list .exit)) (now (masks .exit)) (now (places .exit)) (now (out .exit)) ≡ pieceAfter (now (piece .entry)) (standing run (now (held .entry)) (now (tables .entry)) (now (mass .entry)) (now (list .entry)) (now (masks .entry)) (now (places .entry)) (now (out .entry))) ⌝ }
+{
     let mut arm = run.arm;
     let mut loans = run.loans;
     let mut line = run.line;

@@ -1,6 +1,14 @@
 // A session of the replay script: an arm with its lent tables and a lent mass matrix, on which one line after the other is played.
 ghost use mathlib.Core.Path.{_≡_};
-ghost use Prim.Native.Nat.{_≤_, min};
+ghost use lib.ListN.{set};
+ghost use Rattle.working.specs.Outcome.{out, says};
+ghost use Rattle.arm_edits.specs.Springs.{withJoint};
+ghost use Rattle.script_session.specs.Pokes.{armCouplingPoked, armLinkPoked, couplingPoked, linkPoked, pokeOf, withCoordinate};
+ghost use Rattle.script_session.specs.Lent.{allLent, begun, lent, lentAfter, loanOf, pastFilled};
+ghost use Rattle.script_session.specs.Edits.{armAfter, begunBy, isEdit, isNew};
+ghost use Rattle.script_session.specs.Replies.{questionReply, replied, replyTo};
+ghost use Rattle.script_write.specs.Writing.{written};
+ghost use Rattle.script_questions.specs.Questions.{started};
 use arm::Arm;
 use arm::Coupling;
 use arm::Edited;
@@ -59,7 +67,9 @@ pub struct Loans {
 // More than any memory that is lent has.
 const IN_FULL: usize = 4294967295;
 
-pub fn all_lent() -> Loans {
+pub fn all_lent() -> Loans
+    ensures { λ r. ⌜ r ≡ allLent ⌝ }
+{
     Loans {
         short: IN_FULL,
         rows: IN_FULL,
@@ -70,67 +80,100 @@ pub fn all_lent() -> Loans {
 
 // ---- Pokes
 
-fn joint_poked(j: Joint, poke: Poke, numbers: [u32; NUMBERS], floats: [f32; FLOATS]) -> Joint {
+fn with_coordinate(j: Joint, axis: usize, value: f32) -> Joint
+    ensures { λ r. ⌜ r ≡ withCoordinate j axis value ⌝ }
+{
+    if 3 <= axis {
+        return j;
+    }
     let mut k = j;
+    k.coordinates[axis] = value;
+    k
+}
+
+fn with_joint(l: Link, joint: Joint) -> Link
+    ensures { λ r. ⌜ r ≡ withJoint l joint ⌝ }
+{
+    let mut k = l;
+    k.joint = joint;
+    k
+}
+
+fn link_poked(poke: Poke, l: Link, numbers: [u32; NUMBERS], floats: [f32; FLOATS]) -> Link
+    ensures { λ r. ⌜ r ≡ linkPoked poke numbers floats l ⌝ }
+{
+    let joint = l.joint;
+    let byte = byte_of(numbers[1]);
     match poke {
-        Poke::Locked => {
-            k.locked = byte_of(numbers[1]);
-        }
-        Poke::Limit => {
-            k.limit = byte_of(numbers[1]);
-        }
-        Poke::Motor => {
-            k.motor = byte_of(numbers[1]);
-        }
+        Poke::Tag => Link {
+            tag: numbers[1],
+            ..l
+        },
+        Poke::Parent => Link { parent: byte, ..l },
+        Poke::Locked => with_joint(
+            l,
+            Joint {
+                locked: byte,
+                ..joint
+            },
+        ),
+        Poke::Limit => with_joint(
+            l,
+            Joint {
+                limit: byte,
+                ..joint
+            },
+        ),
+        Poke::Motor => with_joint(
+            l,
+            Joint {
+                motor: byte,
+                ..joint
+            },
+        ),
         Poke::Coordinate => {
-            let axis = numbers[1] as usize;
-            if axis < 3 {
-                k.coordinates[axis] = floats[0];
-            }
+            with_joint(l, with_coordinate(joint, numbers[1] as usize, floats[0]))
         }
         Poke::Rotation => {
             let rotation = Rotation {
                 re: floats[0],
                 im: floats[1],
             };
-            k.rotation = rotation;
-        }
-        _ => {}
-    }
-    k
-}
-
-fn pose_of(floats: [f32; FLOATS]) -> Pose {
-    Pose {
-        re: floats[0],
-        im: floats[1],
-        x: floats[2],
-        y: floats[3],
-    }
-}
-
-fn link_poked(l: Link, poke: Poke, numbers: [u32; NUMBERS], floats: [f32; FLOATS]) -> Link {
-    let mut k = l;
-    match poke {
-        Poke::Tag => {
-            k.tag = numbers[1];
-        }
-        Poke::Parent => {
-            k.parent = byte_of(numbers[1]);
+            with_joint(l, Joint { rotation, ..joint })
         }
         Poke::Pose => {
-            let world = pose_of(floats);
-            k.world = world;
+            let world = Pose {
+                re: floats[0],
+                im: floats[1],
+                x: floats[2],
+                y: floats[3],
+            };
+            Link { world, ..l }
         }
-        _ => {
-            let joint = joint_poked(l.joint, poke, numbers, floats);
-            k.joint = joint;
-        }
+        Poke::Links => l,
+        Poke::Couplings => l,
+        Poke::Coupling => l,
+        Poke::Table => l,
     }
-    k
 }
 
-fn coupling_poked(c: Coupling, numbers: [u32; NUMBERS]) -> Coupling {
+// Link, axis and coupling numbers are below their limits where the line was read.
+fn arm_link_poked(poke: Poke, arm: Arm, numbers: [u32; NUMBERS], floats: [f32; FLOATS]) -> Arm
+    ensures { λ r. ⌜ r ≡ armLinkPoked poke numbers floats arm ⌝ }
+{
+    let at = numbers[0] as usize;
+    if LINKS <= at {
+        return arm;
+    }
+    let l = arm.links[at];
+    let mut new = arm;
+    new.links[at] = link_poked(poke, l, numbers, floats);
+    new
+}
+
+fn coupling_poked(c: Coupling, numbers: [u32; NUMBERS]) -> Coupling
+    ensures { λ r. ⌜ r ≡ couplingPoked numbers c ⌝ }
+{
     Coupling {
         link1: byte_of(numbers[1]),
         axis1: byte_of(numbers[2]),
@@ -141,51 +184,68 @@ fn coupling_poked(c: Coupling, numbers: [u32; NUMBERS]) -> Coupling {
     }
 }
 
-// Link, axis and coupling numbers are below their limits where the line was read.
-fn arm_poked(arm: Arm, poke: Poke, numbers: [u32; NUMBERS], floats: [f32; FLOATS]) -> Arm {
-    let mut new = arm;
+fn arm_coupling_poked(arm: Arm, numbers: [u32; NUMBERS]) -> Arm
+    ensures { λ r. ⌜ r ≡ armCouplingPoked numbers arm ⌝ }
+{
     let at = numbers[0] as usize;
-    match poke {
-        Poke::Links => {
-            new.link_count = at;
-        }
-        Poke::Couplings => {
-            new.coupling_count = at;
-        }
-        Poke::Coupling => {
-            if at < COUPLINGS {
-                let c = arm.couplings[at];
-                new.couplings[at] = coupling_poked(c, numbers);
-            }
-        }
-        Poke::Table => {}
-        _ => {
-            if at < LINKS {
-                let l = arm.links[at];
-                new.links[at] = link_poked(l, poke, numbers, floats);
-            }
-        }
+    if COUPLINGS <= at {
+        return arm;
     }
+    let c = arm.couplings[at];
+    let mut new = arm;
+    new.couplings[at] = coupling_poked(c, numbers);
     new
 }
 
-// `poke table` writes a float of the tables, every other poke the arm.
-fn table_poked(poke: Poke, tables: &mut [f32], numbers: [u32; NUMBERS], floats: [f32; FLOATS]) {
-    let at = numbers[0] as usize;
+fn table_poked(tables: &mut [f32], at: usize, value: f32)
+    ensures { λ _. ⌜ now (tables .exit) ≡ set (now (tables .entry)) at value ⌝ }
+{
+    if at < tables.len() {
+        tables[at] = value;
+    }
+}
+
+// A poke writes the arm, `poke table` a float of the tables.
+fn poked_by(
+    poke: Poke,
+    arm: Arm,
+    tables: &mut [f32],
+    numbers: [u32; NUMBERS],
+    floats: [f32; FLOATS],
+) -> Arm
+    ensures { λ r. ⌜ says 0 r (now (tables .exit)) ≡ pokeOf poke arm (now (tables .entry)) numbers floats ⌝ }
+{
     match poke {
+        Poke::Links => Arm {
+            link_count: numbers[0] as usize,
+            ..arm
+        },
+        Poke::Couplings => Arm {
+            coupling_count: numbers[0] as usize,
+            ..arm
+        },
+        Poke::Coupling => arm_coupling_poked(arm, numbers),
         Poke::Table => {
-            if at < tables.len() {
-                tables[at] = floats[0];
-            }
+            table_poked(tables, numbers[0] as usize, floats[0]);
+            arm
         }
-        _ => {}
+        Poke::Tag => arm_link_poked(poke, arm, numbers, floats),
+        Poke::Parent => arm_link_poked(poke, arm, numbers, floats),
+        Poke::Locked => arm_link_poked(poke, arm, numbers, floats),
+        Poke::Limit => arm_link_poked(poke, arm, numbers, floats),
+        Poke::Motor => arm_link_poked(poke, arm, numbers, floats),
+        Poke::Coordinate => arm_link_poked(poke, arm, numbers, floats),
+        Poke::Rotation => arm_link_poked(poke, arm, numbers, floats),
+        Poke::Pose => arm_link_poked(poke, arm, numbers, floats),
     }
 }
 
 // ---- What is lent
 
 // The floats past the tables, which are there to be left alone.
-fn fill_past(tables: &mut [f32]) {
+fn fill_past(tables: &mut [f32])
+    ensures { λ _. ⌜ now (tables .exit) ≡ pastFilled (now (tables .entry)) ⌝ }
+{
     let past = float_of_bits(PAST);
     let mut i = TABLES;
     while i < tables.len() {
@@ -195,94 +255,96 @@ fn fill_past(tables: &mut [f32]) {
 }
 
 // An empty arm over whole tables.
-pub fn begin(tables: &mut [f32]) -> Arm {
+pub fn begin(tables: &mut [f32]) -> Arm
+    ensures { λ r. ⌜ says 0 r (now (tables .exit)) ≡ begun (now (tables .entry)) ⌝ }
+{
     let e = empty(tables);
     fill_past(tables);
     e.arm
 }
 
-fn begun(loan: Loan, arm: Arm, tables: &mut [f32]) -> Edited {
-    match loan {
-        Loan::New => Edited {
-            refusal: 0,
-            arm: begin(tables),
-        },
-        _ => Edited { refusal: 0, arm },
-    }
-}
-
-fn mass_lent(loan: Loan, list: &[f32], mass: &mut [f32]) {
-    match loan {
-        Loan::Mass => {
-            copy(mass, list);
-        }
-        _ => {}
-    }
-}
-
-fn loans_after(loan: Loan, loans: Loans, number: u32, count: usize) -> Loans {
+fn lent_by(loan: Loan, loans: Loans, number: u32, given: &[f32], mass: &mut [f32]) -> Loans
+    ensures { λ r. ⌜ lent r (now (mass .exit)) ≡ loanOf loan loans number (now (given .entry)) (now (mass .entry)) ⌝ }
+{
     let n = number as usize;
     match loan {
         Loan::New => all_lent(),
-        Loan::Mass => Loans {
-            short: loans.short,
-            rows: loans.rows,
-            places: loans.places,
-            mass: count,
-        },
-        Loan::Short => Loans {
-            short: n,
-            rows: loans.rows,
-            places: loans.places,
-            mass: loans.mass,
-        },
-        Loan::ShortRows => Loans {
-            short: loans.short,
-            rows: n,
-            places: loans.places,
-            mass: loans.mass,
-        },
-        Loan::ShortOut => Loans {
-            short: loans.short,
-            rows: loans.rows,
-            places: n,
-            mass: loans.mass,
-        },
+        Loan::Mass => {
+            copy(mass, given);
+            Loans {
+                mass: given.len(),
+                ..loans
+            }
+        }
+        Loan::Short => Loans { short: n, ..loans },
+        Loan::ShortRows => Loans { rows: n, ..loans },
+        Loan::ShortOut => Loans { places: n, ..loans },
     }
 }
 
 // What is lent after an order; a mass matrix is copied from the list.
-pub fn lent_after(order: Order, loans: Loans, list: &[f32], mass: &mut [f32]) -> Loans {
+pub fn lent_after(order: Order, loans: Loans, list: &[f32], mass: &mut [f32]) -> Loans
+    ensures { λ r. ⌜ lent r (now (mass .exit)) ≡ lentAfter order loans (now (list .entry)) (now (mass .entry)) ⌝ }
+{
     let command = order.command;
     let numbers = order.numbers;
     match command {
         Command::Loan(loan) => {
-            let given = first_of(list, order.count);
-            mass_lent(loan, given, mass);
-            loans_after(loan, loans, numbers[0], given.len())
+            lent_by(loan, loans, numbers[0], first_of(list, order.count), mass)
         }
-        _ => loans,
+        Command::Edit(_) => loans,
+        Command::Question(_) => loans,
+        Command::Poke(_) => loans,
+        Command::Nothing => loans,
+        Command::Unknown => loans,
     }
 }
 
 // ---- The arm after an order
 
+fn is_new(loan: Loan) -> bool
+    ensures { λ r. ⌜ r ≡ isNew loan ⌝ }
+{
+    match loan {
+        Loan::New => true,
+        Loan::Mass => false,
+        Loan::Short => false,
+        Loan::ShortRows => false,
+        Loan::ShortOut => false,
+    }
+}
+
 // Does the order write the arm or its tables?
-pub fn is_edit(order: Order) -> bool {
+pub fn is_edit(order: Order) -> bool
+    ensures { λ r. ⌜ r ≡ isEdit (order .command) ⌝ }
+{
     let command = order.command;
     match command {
         Command::Edit(_) => true,
         Command::Poke(_) => true,
-        Command::Loan(loan) => match loan {
-            Loan::New => true,
-            _ => false,
-        },
-        _ => false,
+        Command::Loan(loan) => is_new(loan),
+        Command::Question(_) => false,
+        Command::Nothing => false,
+        Command::Unknown => false,
+    }
+}
+
+fn begun_by(loan: Loan, arm: Arm, tables: &mut [f32]) -> Arm
+    ensures { λ r. ⌜ says 0 r (now (tables .exit)) ≡ begunBy loan arm (now (tables .entry)) ⌝ }
+{
+    match loan {
+        Loan::New => begin(tables),
+        Loan::Mass => arm,
+        Loan::Short => arm,
+        Loan::ShortRows => arm,
+        Loan::ShortOut => arm,
     }
 }
 
 // The arm after an order, or its refusal and the arm as it was. An order that is no edit leaves it as it is.
-pub fn arm_after(order: Order, arm: Arm, loans: Loans, tables: &mut [f32]) -> Edited {
+pub fn arm_after(order: Order, arm: Arm, loans: Loans, tables: &mut [f32]) -> Edited
+    ensures { λ e. ⌜ out e (now (tables .exit)) ≡ armAfter order arm loans (now (tables .entry)) ⌝ }
+{
     let command = order.command;
     let numbers = order.numbers;
     let floats = order.floats;
@@ -291,15 +353,17 @@ pub fn arm_after(order: Order, arm: Arm, loans: Loans, tables: &mut [f32]) -> Ed
             let end = fewer(loans.short, tables.len());
             edited_by(edit, arm, &mut tables[0..end], numbers, floats)
         }
-        Command::Poke(poke) => {
-            table_poked(poke, tables, numbers, floats);
-            Edited {
-                refusal: 0,
-                arm: arm_poked(arm, poke, numbers, floats),
-            }
-        }
-        Command::Loan(loan) => begun(loan, arm, tables),
-        _ => Edited { refusal: 0, arm },
+        Command::Poke(poke) => Edited {
+            refusal: 0,
+            arm: poked_by(poke, arm, tables, numbers, floats),
+        },
+        Command::Loan(loan) => Edited {
+            refusal: 0,
+            arm: begun_by(loan, arm, tables),
+        },
+        Command::Question(_) => Edited { refusal: 0, arm },
+        Command::Nothing => Edited { refusal: 0, arm },
+        Command::Unknown => Edited { refusal: 0, arm },
     }
 }
 
@@ -318,7 +382,9 @@ fn answered(
     places: &mut [u8],
     out: &mut [u8],
     at: usize,
-) -> usize {
+) -> usize
+    ensures { λ r. ⌜ started (written r (now (out .exit))) (now (places .exit)) ≡ replied (now (out .entry)) at (questionReply arm loans (now (tables .entry)) (now (mass .entry)) numbers floats (now (list .entry)) (now (masks .entry)) (now (places .entry)) question) ⌝ }
+{
     let link = numbers[0] as usize;
     let room = loans.places;
     match question {
@@ -370,7 +436,9 @@ pub fn write_answer(
     places: &mut [u8],
     out: &mut [u8],
     at: usize,
-) -> usize {
+) -> usize
+    ensures { λ r. ⌜ started (written r (now (out .exit))) (now (places .exit)) ≡ replied (now (out .entry)) at (replyTo order arm loans (now (tables .entry)) (now (mass .entry)) (now (list .entry)) (now (masks .entry)) (now (places .entry))) ⌝ }
+{
     let command = order.command;
     let numbers = order.numbers;
     let floats = order.floats;
@@ -392,6 +460,8 @@ pub fn write_answer(
         ),
         Command::Nothing => at,
         Command::Unknown => write_word(out, at, b"unreadable\n"),
-        _ => write_status(out, at, 0),
+        Command::Edit(_) => write_status(out, at, 0),
+        Command::Loan(_) => write_status(out, at, 0),
+        Command::Poke(_) => write_status(out, at, 0),
     }
 }

@@ -1,0 +1,4 @@
+pub mod Played
+pub mod Begun
+pub mod Run
+pub mod Told

@@ -1,0 +1,57 @@
+-- `begun_by`: case by case. Assumes nothing.
+use borrow.Author.Needs.{needs}
+use Rattle.script_session.proofs.begun_by.Statement.{statement}
+use Rattle.script_session.proofs.begun_by.Tie as tie
+
+enum-told : tie.Need-enum-told
+enum-told c = search needs
+
+begin-requires : tie.Need-begin-requires
+begin-requires c κs = search needs
+
+enum-told-2 : tie.Need-enum-told-2
+enum-told-2 c = search needs
+
+enum-told-3 : tie.Need-enum-told-3
+enum-told-3 c = search needs
+
+enum-told-4 : tie.Need-enum-told-4
+enum-told-4 c = search needs
+
+enum-told-5 : tie.Need-enum-told-5
+enum-told-5 c = search needs
+
+same-length : tie.Need-same-length
+same-length c = search needs
+
+returns : tie.Need-returns
+returns c = rw (c .before .before .before .before .enum-told .given .1) (c .before .before .begin .ensures)
+
+returns-2 : tie.Need-returns-2
+returns-2 c = rw (c .enum-told2 .given .1)
+
+returns-3 : tie.Need-returns-3
+returns-3 c = rw (c .enum-told3 .given .1)
+
+returns-4 : tie.Need-returns-4
+returns-4 c = rw (c .enum-told4 .given .1)
+
+returns-5 : tie.Need-returns-5
+returns-5 c = rw (c .enum-told5 .given .1)
+
+pub begun-by-spec : {M : Type 1} → statement M
+begun-by-spec =
+    tie.close
+    (tie.spec
+    enum-told
+    begin-requires
+    enum-told-2
+    enum-told-3
+    enum-told-4
+    enum-told-5
+    same-length
+    returns
+    returns-2
+    returns-3
+    returns-4
+    returns-5)

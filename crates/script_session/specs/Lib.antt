@@ -1,0 +1,4 @@
+pub mod Pokes
+pub mod Lent
+pub mod Edits
+pub mod Replies
