@@ -1,4 +1,5 @@
--- A whole run prints what the definition says of its text, however that came in pieces and however often the buffer was emptied. Assumes nothing.
+-- A whole run prints what the definition says of its text, however that came in pieces and however often the buffer was emptied. Assumes that every
+-- answer has room: at most 32,768 bytes.
 use Prim.Native.Nat.{ℕ, _+_, _≤_}
 use mathlib.Core.Path.{_≡_, refl, sym, ap, _∙_}
 use mathlib.Core.Bool.{true}

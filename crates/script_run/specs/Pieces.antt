@@ -16,7 +16,7 @@ use Rattle.script_run.specs.Told.{allBytes, behindAnswers, firstSession,
 
 -- ---- answers in a buffer
 
--- no answer is longer than there is room for
+-- every answer is as short as there is room for it
 unfoldable pub allFit : List Text → Bool
 allFit [] = true
 allFit (t ∷ ts) = leb (length (bytesOf t)) longestAnswer && allFit ts

@@ -1,4 +1,5 @@
--- A text played, line by line: what `replay` prints for it. That it does so however the text comes in pieces is the law of proofs/Runs.antt.
+-- A text played, line by line: what `replay` prints for it. That a run prints this, however its text comes in pieces, is `the-replay` of proofs/Runs.antt;
+-- it asks that no answer has more than 32,768 bytes.
 use Prim.Native.Nat.{ℕ}
 use mathlib.Core.Bool.{cond}
 use mathlib.Core.List.{List, [], _∷_, _++_}
