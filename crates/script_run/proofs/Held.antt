@@ -1,6 +1,6 @@
 -- A line in pieces is taken as it is whole: what it shows, how long it is as far as that matters, and its bytes where they are read. Assumes nothing.
-use Prim.Native.Nat.{ℕ, zero, suc, _+_, _-_, _≤_, _<_, min}
-use mathlib.Core.Path.{_≡_, refl, sym, ap, _∙_}
+use Prim.Native.Nat.{ℕ, _+_, _-_, _≤_, _<_, min}
+use mathlib.Core.Path.{_≡_, refl, sym, _∙_}
 use mathlib.Core.Bool.{Bool, true, false, cond}
 use mathlib.Core.List.{List, [], _∷_, _++_}
 use native.Mathlib.Omega.{arith}
@@ -8,7 +8,6 @@ use borrow.Author.Tests.{le-leb, lt-leb, leb-true, leb-false, ltb-true, ltb-fals
 use lib.Dec.{eqb, leb, ltb}
 use lib.ListN.{drop, length, take, length-append, length-drop}
 use lib.Seq.{length-take-le, take-at}
-use Rattle.script_words.specs.declared.Line.{Line}
 use Rattle.script_words.specs.declared.Seen.{Seen}
 use Rattle.script_words.specs.declared.Seen.the-variants.{Nothing, Spaces, Comment, Words}
 use Rattle.script_words.specs.Lines.{kindOf, lineKind, longestLine, seenAfter}
@@ -16,9 +15,9 @@ use Rattle.script_words.proofs.Pieces.{in-pieces, whole-line}
 use Rattle.script_write.specs.Writing.{Written, wordWritten, written}
 use Rattle.script_order.specs.Orders.{orderOf}
 use Rattle.script_run.specs.declared.Begun.{Begun}
-use Rattle.script_run.specs.Played.{Played, Session, linePlayed, lineTaken}
+use Rattle.script_run.specs.Played.{Session, linePlayed, lineTaken}
 use Rattle.script_run.specs.Begun.{endedHeld, endedNow, heldMore, lineEnded, longer, noLine}
-use Rattle.script_run.specs.Told.{Holds}
+use Rattle.script_run.specs.Pieces.{Holds}
 
 -- ---- one more piece
 

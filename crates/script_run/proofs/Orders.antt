@@ -11,7 +11,7 @@ use Rattle.working.specs.Outcome.{out}
 use Rattle.script_write.specs.Writing.{Written, written}
 use Rattle.script_order.specs.declared.Order.{Order}
 use Rattle.script_answer.specs.Answers.{status}
-use Rattle.script_answer.specs.Text.{Text, textAfter}
+use Rattle.script_answer.specs.Text.{textAfter}
 use Rattle.script_questions.specs.Questions.{Started, started}
 use Rattle.script_session.specs.declared.Loans.{Loans}
 use Rattle.script_session.specs.Edits.{armAfter, isEdit}

@@ -1,5 +1,5 @@
 -- A line's pieces: room for an answer, what is held, and the order of a line that ends. Assumes nothing.
-use Prim.Native.Nat.{ℕ, _+_, _-_, _≤_, _<_}
+use Prim.Native.Nat.{ℕ, _+_, _-_, _≤_}
 use mathlib.Core.Path.{_≡_, refl, sym, ap, _∙_}
 use mathlib.Core.Bool.{Bool, true, false}
 use mathlib.Core.List.{List}
@@ -15,7 +15,7 @@ use Rattle.script_words.specs.Lines.{kindOf, seenAfter}
 use Rattle.script_write.specs.Writing.{Written, wordWritten, written}
 use Rattle.script_order.specs.Orders.{Ordered, orderOf}
 use Rattle.script_run.specs.declared.Begun.{Begun}
-use Rattle.script_run.specs.Begun.{Held, heldMore, holding, lineEnded, longer, orderTaken, taken}
+use Rattle.script_run.specs.Begun.{heldMore, holding, lineEnded, longer, orderTaken, taken}
 
 module _ (at n len : ℕ) (h : at ≤ len) where
   same-test : (b : Bool) → leb n (len - at) ≡ b → leb n (len - at) ≡ leb (at + n) len

@@ -13,7 +13,8 @@ use Rattle.script_write.specs.Writing.{Written, wordWritten}
 use Rattle.script_answer.specs.Text.{Text, bytesOf, textAfter}
 use Rattle.script_answer.proofs.Whole.{whole}
 use Rattle.script_run.specs.Run.{hasRoom, longestAnswer}
-use Rattle.script_run.specs.Told.{allBytes, allFit, soFar}
+use Rattle.script_run.specs.Told.{allBytes}
+use Rattle.script_run.specs.Pieces.{allFit, soFar}
 
 word-printed : (w : Written) (b : List ℕ) → w .next + length b ≤ length (w .buffer) → soFar (wordWritten w b) ≡ soFar w ++ b
 unfolding wordWritten

@@ -1,7 +1,8 @@
--- A whole run prints what the definition says of its text, however that came in pieces and however often the buffer was emptied. Assumes nothing.
+-- A whole run prints what the definition says of its text, however that came in pieces and however often the buffer was emptied. Assumes that every
+-- answer has room: at most 32,768 bytes.
 use Prim.Native.Nat.{ℕ, _+_, _≤_}
 use mathlib.Core.Path.{_≡_, refl, sym, ap, _∙_}
-use mathlib.Core.Bool.{true, _&&_}
+use mathlib.Core.Bool.{true}
 use mathlib.Core.List.{List, [], _∷_, _++_}
 use lib.ListN.{drop, length, drop-of-length-le}
 use Rattle.script_words.proofs.Flags.{both}
@@ -10,7 +11,8 @@ use Rattle.script_write.specs.Writing.{Written, written}
 use Rattle.script_answer.specs.Text.{Text}
 use Rattle.script_run.specs.Played.{Session}
 use Rattle.script_run.specs.Run.{Stand, stand}
-use Rattle.script_run.specs.Told.{Holds, Prints, Through, Told, allBytes, allFit, aCall, behindAnswers, call, firstSession, firstStand, joined, nextPiece, nothingMore, replayed, soFar, tell, told}
+use Rattle.script_run.specs.Told.{Told, allBytes, behindAnswers, firstSession, replayed, tell, told}
+use Rattle.script_run.specs.Pieces.{Holds, Prints, allFit, aCall, call, firstStand, joined, nextPiece, nothingMore, soFar}
 use Rattle.script_run.proofs.Held.{holds-none}
 use Rattle.script_run.proofs.Telling.{behind-both, tell-both}
 use Rattle.script_run.proofs.Printed.{bytes-both, fit-both}

@@ -7,12 +7,11 @@ use native.Mathlib.Numerals.{add-one}
 use native.Mathlib.Omega.{arith}
 use lib.Dec.{eqb}
 use lib.ListN.{drop, length, take}
-use Rattle.script_words.specs.Words.{bytesBefore, isOther, run}
+use Rattle.script_words.specs.Words.{bytesBefore, run}
 use Rattle.script_words.specs.Lines.{newline}
-use Rattle.script_write.specs.Writing.{Written}
-use Rattle.script_answer.specs.Text.{Text, textAfter}
+use Rattle.script_answer.specs.Text.{Text}
 use Rattle.script_run.specs.Played.{Session, linePlayed}
-use Rattle.script_run.specs.Told.{Told, allAfter, behindAnswers, tell, told}
+use Rattle.script_run.specs.Told.{Told, behindAnswers, tell, told}
 
 one-more : (b : List ℕ) (x : ℕ) (xs : List ℕ) → (b ++ (x ∷ [])) ++ xs ≡ b ++ (x ∷ xs)
 one-more b x xs = append-assoc b (x ∷ []) xs
@@ -57,11 +56,6 @@ tell-rest b (x ∷ xs) s h = go (eqb x newline) h (tell-rest (b ++ (x ∷ [])) x
 
 pub behind-both : (xs ys : List Text) (t : Told) → behindAnswers xs (behindAnswers ys t) ≡ behindAnswers (xs ++ ys) t
 behind-both xs ys t = ap (λ (zs : List Text). told zs (t .line) (t .after)) (sym (append-assoc xs ys (t .answers)))
-
-pub all-both : (xs ys : List Text) (w : Written) → allAfter (xs ++ ys) w ≡ allAfter ys (allAfter xs w)
-unfolding allAfter
-all-both [] ys w = refl
-all-both (x ∷ xs) ys w = all-both xs ys (textAfter x w)
 
 -- a text whose first byte is a newline or not
 abbrev by : Bool → List ℕ → ℕ → List ℕ → Session → Told

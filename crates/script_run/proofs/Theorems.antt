@@ -1,23 +1,23 @@
 -- However a text comes in pieces, and wherever a piece is left for want of room, its lines are told as those of the whole text are. Assumes nothing.
 use Prim.Native.Nat.{ℕ, zero, suc, _+_, _-_, _≤_, _<_}
-use mathlib.Core.Path.{_≡_, refl, sym, ap, subst, _∙_}
+use mathlib.Core.Path.{_≡_, refl, sym, ap, _∙_}
 use mathlib.Core.Bool.{Bool, true, false, cond}
-use mathlib.Core.List.{List, [], _∷_, _++_, append-nil}
+use mathlib.Core.List.{List, [], _∷_, _++_}
 use native.Mathlib.Nat.{add-assoc}
 use native.Mathlib.Omega.{arith}
 use borrow.Author.Tests.{ltb-true, ltb-false}
 use lib.Dec.{ltb}
-use lib.ListN.{drop, length, take, length-drop, drop-of-length-le}
+use lib.ListN.{drop, length, take, length-drop}
 use lib.Seq.{drop-drop, drop-length}
 use Rattle.script_words.specs.Words.{bytesBefore}
-use Rattle.script_words.specs.Lines.{longestLine, newline}
-use Rattle.script_answer.specs.Text.{textAfter}
-use Rattle.script_run.specs.Played.{Played, linePlayed, lineTaken}
-use Rattle.script_run.specs.Begun.{heldMore, lineEnded, noLine}
+use Rattle.script_words.specs.Lines.{newline}
+use Rattle.script_run.specs.Played.{linePlayed, lineTaken}
+use Rattle.script_run.specs.Begun.{lineEnded}
 use Rattle.script_run.specs.Run.{Stand, goesOn, hasRoom, heldTurn, lineTurn, pieceAfter, turn, turns}
-use Rattle.script_run.specs.Told.{Finished, Holds, Through, Told, allAfter, behindAnswers, soFar, tell, told}
+use Rattle.script_run.specs.Told.{behindAnswers, tell, told}
+use Rattle.script_run.specs.Pieces.{Holds, Through, soFar}
 use Rattle.script_run.proofs.Held.{ended-length, holds-more, holds-none, line-ended}
-use Rattle.script_run.proofs.Telling.{all-both, behind-both, tell-line, tell-rest}
+use Rattle.script_run.proofs.Telling.{behind-both, tell-line, tell-rest}
 use Rattle.script_run.proofs.Turns.{more-to-read, still-room}
 use Rattle.script_run.proofs.Printed.{answer-printed, none-printed, printed-both}
 
@@ -26,7 +26,7 @@ use Rattle.script_run.proofs.Printed.{answer-printed, none-printed, pri
 module _ (piece line : List ℕ) (s : Stand) (h : Holds line (s .line) (s .held)) (room : hasRoom (s .said) ≡ true) where
   at-line : s .read + bytesBefore newline (drop (s .read) piece) < length piece
       → Through piece line s (lineTurn s (take (bytesBefore newline (drop (s .read) piece)) (drop (s .read) piece)) (s .read + bytesBefore newline (drop (s .read) piece) + 1))
-  unfolding lineTurn allAfter
+  unfolding lineTurn
   at-line k =
       let r = drop (s .read) piece in
       let n = bytesBefore newline r in
@@ -40,21 +40,19 @@ module _ (piece line : List ℕ) (s : Stand) (h : Holds line (s .line) (s .held)
         begun = [];
         answers = p .text ∷ [];
         holds = holds-none (e .held) (omega (arith, l, h .room));
-        written = refl;
         printed = answer-printed (p .text) (s .said) room;
         same = rw (q, ← d) (tell-line line r (s .now) (omega (arith, k, w)));
       }
 
   at-rest : s .read ≤ length piece → length piece ≤ s .read + bytesBefore newline (drop (s .read) piece)
       → Through piece line s (heldTurn s (drop (s .read) piece) (length piece))
-  unfolding heldTurn allAfter tell
+  unfolding heldTurn tell
   at-rest r k =
       let w = length-drop (s .read) piece in
       record {
         begun = line ++ drop (s .read) piece;
         answers = [];
         holds = holds-more line (drop (s .read) piece) (s .line) (s .held) h;
-        written = refl;
         printed = λ f. none-printed (soFar (s .said));
         same = rw (drop-length piece) (tell-rest line (drop (s .read) piece) (s .now) (omega (arith, k, w)));
       }
@@ -71,15 +69,13 @@ module _ (piece line : List ℕ) (s : Stand) (h : Holds line (s .line) (s .held)
 -- ---- a piece
 
 stay : (piece line : List ℕ) (s : Stand) → Holds line (s .line) (s .held) → Through piece line s s
-unfolding allAfter
-stay piece line s h = record { begun = line; answers = []; holds = h; written = refl; printed = λ f. none-printed (soFar (s .said)); same = refl }
+stay piece line s h = record { begun = line; answers = []; holds = h; printed = λ f. none-printed (soFar (s .said)); same = refl }
 
 onward : (piece line : List ℕ) (s t u : Stand) (a : Through piece line s t) → Through piece (a .begun) t u → Through piece line s u
 onward piece line s t u a b = record {
   begun = b .begun;
   answers = a .answers ++ b .answers;
   holds = b .holds;
-  written = b .written ∙ ap (allAfter (b .answers)) (a .written) ∙ sym (all-both (a .answers) (b .answers) (s .said));
   printed = printed-both (a .answers) (b .answers) (soFar (s .said)) (soFar (t .said)) (soFar (u .said)) (a .printed) (b .printed);
   same = a .same ∙ ap (behindAnswers (a .answers)) (b .same) ∙ behind-both (a .answers) (b .answers) (tell (b .begun) (drop (u .read) piece) (u .now));
 }
@@ -100,15 +96,3 @@ through-turns (suc k) piece line s h =
 pub the-piece : (piece line : List ℕ) (s : Stand) → Holds line (s .line) (s .held) → Through piece line s (pieceAfter piece s)
 unfolding pieceAfter
 the-piece piece line s h = through-turns (length piece - s .read) piece line s h
-
--- ---- a piece that is read to its end
-
-pub the-whole-piece : (piece line : List ℕ) (s : Stand) → Holds line (s .line) (s .held) → length piece ≤ pieceAfter piece s .read
-    → Finished (tell line (drop (s .read) piece) (s .now)) s (pieceAfter piece s)
-unfolding tell
-the-whole-piece piece line s h r =
-    let t = the-piece piece line s h in
-    let u = pieceAfter piece s in
-    let d : behindAnswers (t .answers) (tell (t .begun) (drop (u .read) piece) (u .now)) ≡ told (t .answers) (t .begun) (u .now) =
-    rw (drop-of-length-le piece r, append-nil (t .answers)) in
-    rw (t .same, d) (record { holds = t .holds; now = refl; written = t .written; printed = t .printed })

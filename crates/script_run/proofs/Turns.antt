@@ -18,7 +18,7 @@ use Rattle.script_order.specs.Orders.{ordered}
 use Rattle.script_answer.specs.Text.{Text, textAfter}
 use Rattle.script_run.specs.declared.Begun.{Begun}
 use Rattle.script_run.specs.Played.{Session, lineTaken, orderPlayed, played, withLists}
-use Rattle.script_run.specs.Begun.{Held, Taken, heldMore, holding, lineEnded, noLine, orderTaken, taken}
+use Rattle.script_run.specs.Begun.{Taken, heldMore, holding, lineEnded, noLine, orderTaken, taken}
 use Rattle.script_run.specs.Run.{Stand, goesOn, hasRoom, heldTurn, lineTurn, pieceAfter, stand, turn, turns}
 
 -- ---- what one turn makes

@@ -2,3 +2,4 @@ pub mod Played
 pub mod Begun
 pub mod Run
 pub mod Told
+pub mod Pieces

@@ -50,7 +50,7 @@ turn piece s =
     let n = bytesBefore newline rest in
     cond (ltb (s .read + n) (length piece)) (lineTurn s (take n rest) (s .read + n + 1)) (heldTurn s rest (length piece))
 
--- no answer is longer
+-- the room that there must be before a line is played
 abbrev pub longestAnswer : ℕ
 longestAnswer = 32768
 

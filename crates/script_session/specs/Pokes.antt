@@ -11,7 +11,6 @@ use Rattle.arm.specs.declared.Coupling.{Coupling}
 use Rattle.arm.specs.declared.Link.{Link}
 use Rattle.arm.specs.Edits.{modify, withCouplings, withLinks}
 use Rattle.arm_edits.specs.Springs.{withJoint}
-use Rattle.kinematics.specs.Link.{withPlace}
 use Rattle.working.specs.Outcome.{Outcome, says}
 use Rattle.script_command.specs.declared.Poke.{Poke}
 use Rattle.script_command.specs.declared.Poke.the-variants as poke
