@@ -142,12 +142,12 @@ typedef struct GiellavorForce {
     float torque;
 } GiellavorForce;
 
-/* ---- Answers: a refusal or 0, then what is asked for; zeros where refused */
+/* ---- Answers: a refusal or 0, and what is asked for; zeros where refused */
 
 /* The new arm, or the arm as it came. */
 typedef struct GiellavorEdited {
-    uint8_t refusal;
     GiellavorArm arm;
+    uint8_t refusal;
 } GiellavorEdited;
 
 /* A rotation. */

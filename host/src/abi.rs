@@ -156,8 +156,8 @@ pub struct Force {
 #[repr(C)]
 #[derive(Clone, Copy, Debug, PartialEq)]
 pub struct Edited {
-    pub refusal: u8,
     pub arm: Arm,
+    pub refusal: u8,
 }
 
 /// A rotation.

@@ -79,8 +79,8 @@ pub struct Arm {
 // What a call that edits an arm answers: the new arm, or a refusal and the arm as it came.
 #[repr(C)]
 pub struct Edited {
-    pub refusal: u8,
     pub arm: Arm,
+    pub refusal: u8,
 }
 
 // ---- What counts

@@ -1,3 +1,4 @@
 pub mod Rows
 pub mod Sticky
+pub mod Zeros
 pub mod Tests

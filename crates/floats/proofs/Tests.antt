@@ -6,16 +6,8 @@ use Prim.Native.Nat.{ℕ, _+_, _<_, _≤_}
 use native.Mathlib.Numerals.{add-one}
 use lib.ListN.{length, drop, getD, drop-of-length-le}
 use lib.Seq.{drop-cons}
-use lib.Ieee.{Float, nan, inf, fin, lt}
+use lib.Ieee.{Float, nan}
 use Rattle.floats.specs.Floats.{isFinite, allFinite}
-
--- a finite float lies strictly between the infinities, and no other does
-pub between : (x : Float) → (lt x (inf false) && lt (inf true) x) ≡ isFinite x
-unfolding lt
-between nan = refl
-between (inf false) = refl
-between (inf true) = refl
-between (fin s m e) = refl
 
 and-assoc : (a b c : Bool) → (a && (b && c)) ≡ ((a && b) && c)
 and-assoc true b c = refl

@@ -3,12 +3,11 @@ ghost use mathlib.Core.Path.{_≡_};
 ghost use Prim.Native.Nat.{min};
 ghost use Rattle.floats.specs.Floats.{isFinite, allFinite, entryOf, overlaid};
 
-// Is x neither an infinity nor a NaN?
+// Is x neither an infinity nor a NaN? Of these alone x less x is a NaN, and no zero.
 pub fn finite(x: f32) -> bool
     ensures { λ r. ⌜ r ≡ isFinite x ⌝ }
 {
-    let infinity = 1.0f32 / 0.0f32;
-    (x < infinity) & (-infinity < x)
+    x - x == 0.0
 }
 
 // Is every float of s finite? No branch in the loop, so that it is compiled to wide instructions.

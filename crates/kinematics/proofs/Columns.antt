@@ -1,21 +1,22 @@
 -- Columns past a link's own stay +0: a finite multiple of +0 is a zero, and +0 with any zero is +0. Assumes nothing.
 use mathlib.Core.Path.{_≡_, refl, sym, ap, ap₂, _∙_, subst}
 use mathlib.Core.Logic.{_≢_}
-use Prim.Native.Nat.{ℕ, zero, suc, _+_, _*_, _≤_, _<_, compare, Ordering, Ordering·lt, Ordering·eq, Ordering·gt}
+use Prim.Native.Nat.{ℕ, zero, suc, _+_, _*_, _≤_, _<_}
 use mathlib.Core.Bool.{Bool, true, false, cond, _&&_}
 use mathlib.Core.List.{List, [], _∷_, _++_, map}
 use native.Mathlib.Omega.{arith}
-use native.Mathlib.Nat.{mul-zero, mul-one, zero-div, zero-mod}
+use native.Mathlib.Nat.{mul-zero, mul-one}
 use lib.Pow.{pow-pos}
-use borrow.Author.Tests.{ltb-true, le-leb}
-use lib.Dec.{ltb, isLe}
+use borrow.Author.Tests.{ltb-true}
+use lib.Dec.{ltb}
 use lib.IntN.{ℤ, pos, negsuc}
 use lib.ListN.{length, drop, getD, set, length-map, List·getD-map, List·getD-append, length-replicate, getD-replicate}
 use lib.Seq.{getD-append-add, getD-take, getD-drop, getD-set-other}
-use lib.Ieee.{Float, nan, inf, fin, binary32, ofBits, add, mul, neg, nearest, round, units, odd, sum, size, span, climb, up, down, unlike}
+use lib.Ieee.{Float, nan, inf, fin, binary32, add, mul, neg, round, units, odd, sum, size, span, climb, up, down, unlike}
 use Rattle.limits.specs.Limits.{dofLimit, blockSize}
 use Rattle.floats.specs.Floats.{zero32, isFinite, allFinite, zipTo}
 use Rattle.floats.proofs.Rows.{length-zipTo}
+use Rattle.floats.proofs.Zeros.{nought, zero-is, positive}
 use Rattle.masks.specs.Masks.{isFree, dofsBelow, dofsOf}
 use Rattle.masks.specs.Starts.{startOf}
 use Rattle.masks.proofs.Laws.{below-free, dofs-le}
@@ -35,26 +36,6 @@ use Rattle.kinematics.proofs.Small.{and-left, and-right, all-at}
 use Rattle.kinematics.proofs.Promises.{all-fresh, after-good}
 
 -- ---- zeros
-
-abbrev nought : Bool → Float
-nought s = fin s 0 (pos 0)
-
-zero-is : zero32 ≡ nought false
-unfolding ofBits
-zero-is = refl
-
-down-to-zero : (o : Ordering) → isLe o ≡ true → nearest 0 o ≡ 0
-down-to-zero Ordering·lt h = refl
-down-to-zero Ordering·eq h = refl
-down-to-zero Ordering·gt h = cc
-
-round-zero : (s : Bool) (d : ℕ) → round binary32 s 0 (suc d) ≡ nought s
-unfolding round size span climb units odd
-round-zero s d = rw (zero-div (suc d), mul-one (suc d), zero-div (suc d), zero-mod (suc d), down-to-zero (compare 0 (suc d)) (le-leb 0 (suc d) (omega arith)))
-
-positive : (n : ℕ) → 0 < n → (s : Bool) → round binary32 s 0 n ≡ nought s
-positive zero h s = absurd (omega arith)
-positive (suc n) h s = round-zero s n
 
 -- a finite float times +0 is a zero
 times-zero : (s : Bool) (m : ℕ) (e : ℤ) → mul binary32 (fin s m e) (nought false) ≡ nought (unlike s false)
