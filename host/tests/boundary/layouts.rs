@@ -369,7 +369,7 @@ fn layouts() -> Vec<Layout> {
         NewCoupling { link1, axis1, link2, axis2, coefficient, offset }
         Limits { position, min, max, dt, erp_inv_dt, cfm_coeff }
         Force { x, y, torque }
-        Edited { refusal, arm }
+        Edited { arm, refusal }
         Rotated { refusal, rotation }
         Count { refusal, count }
         Counted { refusal, count }
