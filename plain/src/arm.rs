@@ -1,6 +1,6 @@
 //! The arm, and the tests that it must pass itself whenever it is handed to a call.
 
-use crate::floats::finite;
+use crate::floats::{finite, flags, none_set};
 use crate::joint::Joint;
 use crate::limits::{COUPLINGS, DOFS, LINKS};
 use crate::masks::{ALL, ANGLE, dofs_below, is_axis, is_free, is_mask};
@@ -26,9 +26,10 @@ impl Kept {
         shift23: Point::ZERO,
     };
 
+    /// The flags of its floats.
     #[inline]
-    pub fn is_finite(&self) -> bool {
-        self.pose.is_finite() & self.shift02.is_finite() & self.shift23.is_finite()
+    pub fn flags(&self) -> u32 {
+        flags(&self.pose.floats()) | flags(&self.shift02.floats()) | flags(&self.shift23.floats())
     }
 }
 
@@ -52,8 +53,9 @@ impl Link {
         kept: Kept::NONE,
     };
 
-    fn is_finite(&self) -> bool {
-        self.joint.is_finite() & self.com.is_finite() & self.kept.is_finite()
+    /// The flags of its floats.
+    fn flags(&self) -> u32 {
+        self.joint.flags() | flags(&self.com.floats()) | self.kept.flags()
     }
 }
 
@@ -216,7 +218,7 @@ impl Arm {
     /// Rule 7, up to the counts.
     fn is_finite(&self) -> bool {
         let dofs = self.dofs();
-        self.links().iter().fold(true, |fine, link| fine & link.is_finite())
+        none_set(self.links().iter().fold(0, |flags, link| flags | link.flags()))
             && self
                 .couplings()
                 .iter()

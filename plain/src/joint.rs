@@ -1,6 +1,6 @@
 //! One joint: what ties a link to its parent.
 
-use crate::floats::finite;
+use crate::floats::flags;
 use crate::limits::AXES;
 use crate::masks::{self, ALL, ANGLE, free_axes, is_free};
 use crate::pose::{Point, Pose};
@@ -106,13 +106,14 @@ impl Joint {
         on_axes
     }
 
+    /// The flags of its floats.
     #[inline]
-    pub fn is_finite(&self) -> bool {
-        self.frame1.is_finite()
-            & self.frame2.is_finite()
-            & finite(&self.coords)
-            & finite(&self.rot.floats())
-            & finite(&self.stiffness)
-            & finite(&self.rest)
+    pub fn flags(&self) -> u32 {
+        flags(&self.frame1.floats())
+            | flags(&self.frame2.floats())
+            | flags(&self.coords)
+            | flags(&self.rot.floats())
+            | flags(&self.stiffness)
+            | flags(&self.rest)
     }
 }

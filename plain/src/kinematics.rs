@@ -1,7 +1,7 @@
 //! Kinematics: a link's world pose, shifts and Jacobian block from its parent's.
 
 use crate::arm::{Kept, Link};
-use crate::floats::finite;
+use crate::floats::{finite, none_set};
 use crate::limits::{AXES, BLOCK, DOFS, LINKS, TABLES};
 use crate::masks::free_axes;
 use crate::pose::Point;
@@ -124,7 +124,7 @@ impl<const N: usize> Working<N> {
             add_own_columns(block, locked, start, parent_kept.pose.rot.times(frame1));
         }
         shift(block, kept.shift23);
-        Overflow.when(!kept.is_finite() || !is_finite(block))?;
+        Overflow.when(!none_set(kept.flags()) || !is_finite(block))?;
 
         self.kept[self.count] = kept;
         self.links[self.count] = i as u8;
