@@ -1,7 +1,7 @@
 -- The refusals: the bare list's own, an arm that breaks rule 4 or an earlier one being refused by no more than 4 in any case. Assumes nothing.
 use Prim.Native.Nat.{ℕ, zero, suc, min, _+_, _*_, _/_, _≤_, _<_}
 use mathlib.Core.Path.{_≡_, refl, sym, ap, _∙_}
-use mathlib.Core.Bool.{Bool, true, false, _&&_}
+use mathlib.Core.Bool.{Bool, true, false, _&&_, and-true}
 use mathlib.Core.Logic.{_⊎_, inl, inr}
 use mathlib.Core.List.{List, [], _∷_, _++_}
 use native.Mathlib.Omega.{arith}
@@ -136,10 +136,6 @@ module _ (a : Arm) (whole : length (a .links) ≡ linkLimit) (s : Split) where
           let n : length (parentsOf a) ≡ a .«link_count» = parents-live ∙ omega (arith, w .few) in
           rw (refused-by, n, w .fit, and-true)
     ]
-      where
-        and-true : (b : Bool) → (b && true) ≡ b
-        and-true true = refl
-        and-true false = refl
 
     -- the part count is the bare list's, or the link is refused
     pub part-tests : (k : ℕ)

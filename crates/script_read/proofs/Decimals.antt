@@ -1,6 +1,6 @@
 -- A decimal with a point: its digits, read one row after the other, are all digits together. Assumes nothing.
 use mathlib.Core.Path.{_≡_, refl, sym, ap, _∙_}
-use mathlib.Core.Bool.{Bool, true, false, cond}
+use mathlib.Core.Bool.{Bool, true, false, cond, and-false}
 use mathlib.Core.List.{List, [], _∷_}
 use Prim.Native.Nat.{ℕ, _+_, _-_, _≤_, _<_}
 use native.Mathlib.Nat.{zero-add, sub-zero}
@@ -11,7 +11,7 @@ use lib.Dec.{eqb, leb}
 use borrow.Rule.Slice.PartAt.{part-to-end}
 use lib.ListN.{length, take, drop, getD, length-drop}
 use lib.Ieee.{nan}
-use Rattle.script_words.proofs.Flags.{and-false, either-way}
+use Rattle.script_words.proofs.Flags.{either-way}
 use Rattle.script_read.proofs.Digits.{whole-value, whole-too-large, not-some, whole-rows, rows-too-large}
 use Rattle.script_words.specs.Words.{bytesBefore, sameBytes}
 use Rattle.script_read.specs.Numbers.{someDigits, wholeOf}

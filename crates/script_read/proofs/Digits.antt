@@ -1,6 +1,6 @@
 -- A row of digits: one turn of the loop that reads it, each of its ends, and two rows as one. Assumes nothing.
 use mathlib.Core.Path.{_≡_, refl, ap, _∙_}
-use mathlib.Core.Bool.{Bool, true, false, cond, _&&_}
+use mathlib.Core.Bool.{Bool, true, false, cond, _&&_, and-false}
 use mathlib.Core.List.{List, [], _∷_, _++_}
 use Prim.Native.Nat.{ℕ, _+_, _-_, _*_, _≤_, _<_}
 use native.Mathlib.Nat.{mul-le-mul, le-mul-of-pos-right}
@@ -10,7 +10,7 @@ use borrow.Author.Tests.{lt-ltb, le-ltb, le-leb, lt-leb, ltb-true, leb-true, leb
 use lib.Dec.{ltb, leb}
 use lib.ListN.{length, drop, getD, drop-of-length-le, length-append}
 use lib.Seq.{drop-cons}
-use Rattle.script_words.proofs.Flags.{and-false, both}
+use Rattle.script_words.proofs.Flags.{both}
 use Rattle.script_read.specs.Numbers.{isWithin, digitOf, areDigits, someDigits, valueFrom, wholeOf}
 use Rattle.script_read.specs.declared.NumberWord.the-variants.{Value, Unreadable}
 

@@ -1,7 +1,7 @@
 -- What stands in a buffer behind answers: all their bytes, where each has room. Assumes nothing.
 use Prim.Native.Nat.{ℕ, _+_, _≤_}
 use mathlib.Core.Path.{_≡_, refl, sym, ap, _∙_}
-use mathlib.Core.Bool.{Bool, true, false, _&&_}
+use mathlib.Core.Bool.{Bool, true, false, _&&_, and-assoc}
 use mathlib.Core.List.{List, [], _∷_, _++_, append-assoc, append-nil}
 use native.Mathlib.Omega.{arith}
 use borrow.Author.Tests.{le-leb, leb-true}
@@ -33,10 +33,6 @@ answer-printed t w r f =
     rw (whole t w h, append-nil (bytesOf t)) (word-printed w (bytesOf t) h)
 
 -- ---- answers behind answers
-
-and-assoc : (a b c : Bool) → ((a && b) && c) ≡ (a && (b && c))
-and-assoc true b c = refl
-and-assoc false b c = refl
 
 pub fit-both : (xs ys : List Text) → allFit (xs ++ ys) ≡ (allFit xs && allFit ys)
 unfolding allFit

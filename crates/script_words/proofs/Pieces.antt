@@ -1,6 +1,6 @@
 -- A line in pieces: what it shows by its bytes one after the other, and that this tells how it is taken. Assumes nothing.
 use mathlib.Core.Path.{_≡_, refl, sym}
-use mathlib.Core.Bool.{Bool, true, false, cond, _||_}
+use mathlib.Core.Bool.{Bool, true, false, cond, _||_, or-true, or-false}
 use mathlib.Core.List.{List, [], _∷_, _++_}
 use Prim.Native.Nat.{ℕ, zero, suc, _+_, _≤_, _<_}
 use native.Mathlib.Nat.{zero-add}
@@ -10,7 +10,6 @@ use borrow.Author.Tests.{lt-ltb, le-ltb}
 use lib.Dec.{eqb, leb}
 use lib.ListN.{length, drop, getD, drop-of-length-le}
 use lib.Seq.{drop-cons}
-use Rattle.script_words.proofs.Flags.{or-true, or-false}
 use Rattle.script_words.specs.Words.{space, run, isSpace, isOther, wordAt, isMissing, nextWord, isLast}
 use Rattle.script_words.specs.Lines.{hash, longestLine, seenStep, seenAfter, kindOf, isPassed, lineKind}
 use Rattle.script_words.specs.declared.Seen.{Seen}
