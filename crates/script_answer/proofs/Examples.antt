@@ -3,7 +3,8 @@ use mathlib.Core.Path.{_≡_, refl}
 use mathlib.Core.List.{[], _∷_}
 use lib.Ieee.{nan, isNan}
 use Rattle.script_write.specs.Writing.{bitsOf, decimalDigits, hexDigits}
-use Rattle.script_answer.specs.Text.{bytes, bytesOf, inTurn}
+use Rattle.script_words.specs.Names.{bytes}
+use Rattle.script_answer.specs.Text.{bytesOf, inTurn}
 use Rattle.script_answer.specs.Answers.{allFloats, allPlaces, line, named, nextFloat, nextNumber, place, refused, status}
 
 a-refusal : bytesOf (status 12) ≡ bytes "refused 12\n"

@@ -6,7 +6,8 @@ use lib.Dec.{eqb}
 use lib.ListN.{length, getD}
 use lib.Ieee.{Float, nan}
 use Rattle.script_write.specs.Writing.{decimalDigits, hexDigits, bitsOf}
-use Rattle.script_answer.specs.Text.{Text, nothing, word, _▸_, bytes, inTurn}
+use Rattle.script_words.specs.Names.{bytes}
+use Rattle.script_answer.specs.Text.{Text, nothing, word, _▸_, inTurn}
 
 abbrev pub newline : Text
 newline = word (bytes "\n")

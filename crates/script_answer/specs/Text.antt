@@ -1,16 +1,9 @@
 -- What an answer is made of: words, one after another. A word is written where it fits; else it is left out.
 use Prim.Native.Nat.{ℕ, zero, suc}
-use Prim.Native.Char.{code}
-use Prim.Native.String.{String, [], _∷_}
-use mathlib.Core.List.{List, [] as []ᴸ, _∷_ as _∷ᴸ_, _++_}
+use mathlib.Core.List.{List, [], _++_}
 use Rattle.script_write.specs.Writing.{Written, written, wordWritten}
 
 infixl 5 _▸_
--- the bytes of a name
-abbrev pub bytes : String → List ℕ
-bytes [] = []ᴸ
-bytes (c ∷ cs) = code c ∷ᴸ bytes cs
-
 -- nothing, a word of these bytes, or a text and one behind it
 pub data Text : Type 0 where
   nothing : Text
@@ -30,7 +23,7 @@ textAfter (a ▸ b) w = textAfter b (textAfter a w)
 
 -- all its bytes
 unfoldable pub bytesOf : Text → List ℕ
-bytesOf nothing = []ᴸ
+bytesOf nothing = []
 bytesOf (word bytes) = bytes
 bytesOf (a ▸ b) = bytesOf a ++ bytesOf b
 

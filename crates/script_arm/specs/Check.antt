@@ -9,7 +9,8 @@ use Rattle.limits.specs.Limits.{blockSize, dofLimit, tableSize}
 use Rattle.arm.specs.declared.Arm.{Arm}
 use Rattle.arm.specs.Arm.{dofCountOf, liveLinks}
 use Rattle.script_write.specs.Writing.{bitsOf}
-use Rattle.script_answer.specs.Text.{Text, _▸_, bytes}
+use Rattle.script_words.specs.Names.{bytes}
+use Rattle.script_answer.specs.Text.{Text, _▸_}
 use Rattle.script_answer.specs.Answers.{counted, newline}
 use Rattle.script_arm.specs.Dump.{printed}
 

@@ -15,7 +15,8 @@ use Rattle.arm.specs.declared.Row.{Row}
 use Rattle.arm.specs.Arm.{dofCountOf, entriesTo, liveLinks, startAt}
 use Rattle.kinematics.specs.State.{linkAt}
 use Rattle.part_arm.specs.Part.{couplingAt}
-use Rattle.script_answer.specs.Text.{Text, _▸_, bytes, inTurn}
+use Rattle.script_words.specs.Names.{bytes}
+use Rattle.script_answer.specs.Text.{Text, _▸_, inTurn}
 use Rattle.script_answer.specs.Answers.{allFloats, counted, line, named, newline, nextNumber}
 
 -- a count, as far as numbers go

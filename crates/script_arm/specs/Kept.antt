@@ -8,7 +8,8 @@ use Rattle.arm.specs.declared.Arm.{Arm}
 use Rattle.arm.specs.declared.Link.{Link}
 use Rattle.arm.specs.Arm.{dofCountOf, liveLinks}
 use Rattle.kinematics.specs.State.{linkAt}
-use Rattle.script_answer.specs.Text.{Text, _▸_, bytes, inTurn}
+use Rattle.script_words.specs.Names.{bytes}
+use Rattle.script_answer.specs.Text.{Text, _▸_, inTurn}
 use Rattle.script_answer.specs.Answers.{counted}
 use Rattle.script_arm.specs.Dump.{ending, poseFloats}
 

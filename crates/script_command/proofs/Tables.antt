@@ -9,7 +9,8 @@ use borrow.Author.Tests.{eqb-false, leb-true}
 use lib.Dec.{leb}
 use lib.ListN.{length}
 use Rattle.script_words.proofs.Equal.{other-length}
-use Rattle.script_command.specs.Names.{text, is, named, kept, hasLength, hasOtherLength}
+use Rattle.script_words.specs.Names.{bytes}
+use Rattle.script_command.specs.Names.{is, named, kept, hasLength, hasOtherLength}
 use Rattle.script_command.specs.declared.Command.{Command}
 use Rattle.script_command.specs.declared.Command.the-variants.{Unknown}
 
@@ -47,7 +48,7 @@ named-kept word test other (entry ∷ table) = go (named-kept word test other ta
 
 -- a name of another length than n is no candidate for a word of length n
 pub other-name : (n : ℕ) (word : List ℕ) → length word ≡ n → (name : String) → hasLength n name ≡ false → is word name ≡ false
-other-name n word l name h = other-length word (text name) (λ e. eqb-false (length (text name)) n h (sym e ∙ l))
+other-name n word l name h = other-length word (bytes name) (λ e. eqb-false (length (bytes name)) n h (sym e ∙ l))
 
 within : (n : ℕ) → not (leb 3 n && leb n 6) ≡ false → (3 ≤ n) × (n ≤ 6)
 within n h = go (leb 3 n) refl (leb n 6) refl h
@@ -69,5 +70,5 @@ pub no-short-name :
     → hasOtherLength name ≡ false
     → is word name ≡ false
 no-short-name word a b c d name h =
-    let w = within (length (text name)) h in
-    other-length word (text name) (λ e. omega arith)
+    let w = within (length (bytes name)) h in
+    other-length word (bytes name) (λ e. omega arith)

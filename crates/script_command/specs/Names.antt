@@ -1,11 +1,11 @@
 -- The commands of the replay script by their names, in the order of its document.
 use Prim.Native.Nat.{ℕ}
-use Prim.Native.Char.{code}
-use Prim.Native.String.{String, [] as []ˢ, _∷_ as _∷ˢ_}
+use Prim.Native.String.{String}
 use mathlib.Core.Bool.{Bool, cond, not, _&&_}
 use mathlib.Core.List.{List, [], _∷_, _++_}
 use lib.Dec.{eqb, leb}
 use lib.ListN.{length}
+use Rattle.script_words.specs.Names.{bytes}
 use Rattle.script_words.specs.Words.{sameBytes}
 use Rattle.script_command.specs.declared.Command.{Command}
 use Rattle.script_command.specs.declared.Command.the-variants.{Edit, Question, Loan, Poke, Unknown}
@@ -14,13 +14,8 @@ use Rattle.script_command.specs.declared.Question.the-variants as questi
 use Rattle.script_command.specs.declared.Loan.the-variants as loan
 use Rattle.script_command.specs.declared.Poke.the-variants as poke
 
--- the bytes of a text
-abbrev pub text : String → List ℕ
-text []ˢ = []
-text (c ∷ˢ cs) = code c ∷ text cs
-
 abbrev pub is : List ℕ → String → Bool
-is word name = sameBytes word (text name)
+is word name = sameBytes word (bytes name)
 
 -- the command that a word names in a table
 unfoldable pub named : List (String × Command) → List ℕ → Command
@@ -69,7 +64,7 @@ kept test [] = []
 kept test (entry ∷ table) = cond (test (entry .0)) (entry ∷ kept test table) (kept test table)
 
 abbrev pub hasLength : ℕ → String → Bool
-hasLength n name = eqb (length (text name)) n
+hasLength n name = eqb (length (bytes name)) n
 
 -- the names of n bytes
 abbrev pub ofLength : ℕ → List (String × Command)
@@ -77,7 +72,7 @@ ofLength n = kept (hasLength n) oneWord
 
 -- the other names: of fewer than three bytes or more than six
 abbrev pub hasOtherLength : String → Bool
-hasOtherLength name = not (leb 3 (length (text name)) && leb (length (text name)) 6)
+hasOtherLength name = not (leb 3 (length (bytes name)) && leb (length (bytes name)) 6)
 
 abbrev pub ofOtherLength : List (String × Command)
 ofOtherLength = kept hasOtherLength oneWord

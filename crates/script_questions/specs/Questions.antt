@@ -19,7 +19,8 @@ use Rattle.arm_views.specs.Links.{mulAnswer, springAnswer}
 use Rattle.arm_views.specs.View.{viewAnswer}
 use Rattle.parts.specs.Answers.{armSplit}
 use Rattle.script_write.specs.Writing.{Written}
-use Rattle.script_answer.specs.Text.{Text, word, _▸_, bytes, textWritten}
+use Rattle.script_words.specs.Names.{bytes}
+use Rattle.script_answer.specs.Text.{Text, word, _▸_, textWritten}
 use Rattle.script_answer.specs.Answers.{allNumbers, allPlaces, answered, counted, line, newline}
 
 -- what is lent: as many of the places as there is room for

@@ -11,7 +11,8 @@ use Rattle.unit_multibody_joint.specs.Answers.{frictionAnswer, limitAnswer}
 use Rattle.fill_jacobians.specs.declared.Force.{Force}
 use Rattle.fill_jacobians.specs.declared.Sums.{Sums}
 use Rattle.fill_jacobians.specs.Fill.{fillAnswer}
-use Rattle.script_answer.specs.Text.{Text, word, _▸_, bytes}
+use Rattle.script_words.specs.Names.{bytes}
+use Rattle.script_answer.specs.Text.{Text, word, _▸_}
 use Rattle.script_answer.specs.Answers.{answered, line, named}
 
 unfoldable pub gains : ConstraintRow → Text

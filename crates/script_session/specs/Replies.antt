@@ -14,7 +14,8 @@ use Rattle.script_command.specs.declared.Command.the-variants as command
 use Rattle.script_command.specs.declared.Question.{Question}
 use Rattle.script_command.specs.declared.Question.the-variants as question
 use Rattle.script_order.specs.declared.Order.{Order}
-use Rattle.script_answer.specs.Text.{Text, nothing, word, _▸_, bytes, textWritten}
+use Rattle.script_words.specs.Names.{bytes}
+use Rattle.script_answer.specs.Text.{Text, nothing, word, _▸_, textWritten}
 use Rattle.script_answer.specs.Answers.{status}
 use Rattle.script_arm.specs.Dump.{dumped}
 use Rattle.script_arm.specs.Kept.{kept}
