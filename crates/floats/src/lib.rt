@@ -1,7 +1,7 @@
 // Floats in a row: which are finite, and copies.
 ghost use mathlib.Core.Path.{_≡_};
-ghost use Prim.Native.Nat.{min};
 ghost use Rattle.floats.specs.Floats.{isFinite, allFinite, entryOf, overlaid};
+use limits::fewer;
 
 // Is x neither an infinity nor a NaN? Of these alone x less x is a NaN, and no zero.
 pub fn finite(x: f32) -> bool
@@ -28,12 +28,6 @@ pub fn entry(row: &[f32], k: usize) -> f32
     ensures { λ r. ⌜ r ≡ entryOf (now (row .entry)) k ⌝ }
 {
     if k < row.len() { row[k] } else { 0.0 }
-}
-
-fn fewer(a: usize, b: usize) -> usize
-    ensures { λ r. ⌜ r ≡ min a b ⌝ }
-{
-    if a < b { a } else { b }
 }
 
 // The floats of `from` go into the front of `to`, as many as both have.

@@ -1,4 +1,6 @@
 // How large an arm may be. Every size of the library is one of these.
+ghost use mathlib.Core.Path.{_≡_};
+ghost use Prim.Native.Nat.{min};
 
 pub const LINKS: usize = 16;
 
@@ -12,3 +14,10 @@ pub const BLOCK: usize = 3 * DOFS;
 
 // Floats of the tables: a block for each link.
 pub const TABLES: usize = LINKS * BLOCK;
+
+// The smaller count.
+pub fn fewer(a: usize, b: usize) -> usize
+    ensures { λ r. ⌜ r ≡ min a b ⌝ }
+{
+    if a < b { a } else { b }
+}

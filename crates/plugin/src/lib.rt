@@ -2,7 +2,7 @@
 // Each returns a count, or a refusal's number below zero: -4 for refusal 4. A refusal writes nothing.
 ghost use mathlib.Core.Path.{_≡_};
 ghost use mathlib.Core.List.{_++_};
-ghost use Prim.Native.Nat.{min, _+_, _*_, _≤_};
+ghost use Prim.Native.Nat.{_+_, _*_, _≤_};
 ghost use lib.ListN.{length, take, drop};
 ghost use lib.Ieee.{binary32, toBits};
 ghost use Rattle.topology.specs.declared.Split.the-variants.{Delete, Cut};
@@ -10,6 +10,7 @@ ghost use Rattle.topology.specs.Answers.{splitAnswer};
 ghost use Rattle.masks.specs.Answers.{laid, dofsAnswer, startsAnswer, constraintsAnswer};
 ghost use Rattle.plugin.specs.Returns.{out, told, countTold, splitTold, filledTold};
 ghost use Rattle.plugin.specs.Bytes.{littleEndian, bytesOf, dampingBytes};
+use limits::fewer;
 use topology::Split;
 
 // The count, or the refusal below zero.
@@ -105,12 +106,6 @@ fn write_row(row: &[f32], bytes: &mut [u8])
         write_bits(bits(row[i]), bytes, 4 * i);
         i += 1;
     }
-}
-
-fn fewer(a: usize, b: usize) -> usize
-    ensures { λ r. ⌜ r ≡ min a b ⌝ }
-{
-    if a < b { a } else { b }
 }
 
 // The default damping of a mask, as f32 bits, lowest byte first, four bytes a DoF into `damping`; returned is the DoF count. Refused: 1, 5.

@@ -25,6 +25,7 @@ use fill_jacobians::Sums;
 use fill_jacobians::fill_jacobians;
 use limits::DOFS;
 use limits::LINKS;
+use limits::fewer;
 use masks::default_damping;
 use masks::num_velocity_constraints;
 use parts::split;
@@ -46,12 +47,6 @@ use unit_multibody_joint::ConstraintRow;
 use unit_multibody_joint::Limits;
 use unit_multibody_joint::friction_row;
 use unit_multibody_joint::limit_row;
-
-pub fn fewer(a: usize, b: usize) -> usize
-    ensures { λ r. ⌜ r ≡ min a b ⌝ }
-{
-    if a < b { a } else { b }
-}
 
 // The first floats, at most n.
 pub fn first_of(s: &[f32], n: usize) -> &[f32]

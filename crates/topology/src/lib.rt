@@ -2,7 +2,7 @@
 ghost use mathlib.Core.Path.{_≡_};
 ghost use mathlib.Core.Bool.{true};
 ghost use mathlib.Core.List.{_++_};
-ghost use Prim.Native.Nat.{min, _*_, _≤_};
+ghost use Prim.Native.Nat.{_*_, _≤_};
 ghost use lib.ListN.{length, take, drop};
 ghost use Rattle.limits.specs.Limits.{linkLimit};
 ghost use Rattle.topology.specs.Tables.{each};
@@ -11,6 +11,7 @@ ghost use Rattle.topology.specs.Split.{linkOf, survives, headOf, partCou
 ghost use Rattle.topology.specs.Numbered.{numbered};
 ghost use Rattle.topology.specs.Answers.{out, refusalOf, branchAnswer, splitAnswer};
 use limits::LINKS;
+use limits::fewer;
 use refusal::lower;
 use refusal::unless;
 
@@ -111,12 +112,6 @@ pub fn kinematic_branch(parents: &[u8], link: usize, to: &mut [u8]) -> Counted
         refusal: 0,
         count: n,
     }
-}
-
-fn fewer(a: usize, b: usize) -> usize
-    ensures { λ r. ⌜ r ≡ min a b ⌝ }
-{
-    if a < b { a } else { b }
 }
 
 // Which links are at or below a link, in one rising pass.

@@ -25,6 +25,7 @@ use floats::copy;
 use floats::entry;
 use floats::finite;
 use limits::DOFS;
+use limits::fewer;
 use masks::is_axis;
 use masks::is_free;
 use refusal::lower;
@@ -187,12 +188,6 @@ fn constrain(
 }
 
 // ---- Refusals
-
-fn fewer(a: usize, b: usize) -> usize
-    ensures { λ r. ⌜ r ≡ min a b ⌝ }
-{
-    if a < b { a } else { b }
-}
 
 // Are the n floats from `at` on finite, as many of them as there are?
 pub fn is_finite_part(s: &[f32], at: usize, n: usize) -> bool
