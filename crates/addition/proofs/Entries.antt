@@ -25,7 +25,7 @@ use Rattle.arm.proofs.Lists.{filled-all}
 use Rattle.arm.proofs.Live.{masks-live}
 use Rattle.arm.proofs.Edits.{set-modify}
 use Rattle.kinematics.proofs.Blocks.{copied-in}
-use Rattle.addition.specs.NewLink.{zeros, entriesSet, rowsWith}
+use Rattle.addition.specs.NewLink.{zeros, entriesSet, rowsFrom}
 
 -- ---- the default damping, at the front of three places
 
@@ -53,14 +53,13 @@ entries-set row start n values z h l e =
 -- ---- the rows
 
 -- every row has its zeros, and the damping row its own
-pub rows-with : (a : Arm) (mask start n k i : ℕ) (rows : List Row) (values : List Float) (d v : Row) → length (a .rows) ≡ 5 → length rows ≡ 5 → start ≡ dofCountOf a → n ≡ dofsOf mask
-    → k ≡ rowNumber Damping → 5 ≤ i → take i rows ≡ take i (map (entriesSet start n zeros) (a .rows)) → values ≡ laid (dampingRow mask) zeros
-    → v ≡ entriesSet start n values (getD rows k d) → set rows k v ≡ rowsWith a mask
-unfolding rowsWith
-rows-with a mask start n k i rows values d v w l es en ek h p ev q =
+pub rows-with : (given : List Row) (mask start n k i : ℕ) (rows : List Row) (values : List Float) (d v : Row) → length given ≡ 5 → length rows ≡ 5 → n ≡ dofsOf mask
+    → k ≡ rowNumber Damping → 5 ≤ i → take i rows ≡ take i (map (entriesSet start n zeros) given) → values ≡ laid (dampingRow mask) zeros
+    → v ≡ entriesSet start n values (getD rows k d) → set rows k v ≡ rowsFrom start mask given
+rows-with given mask start n k i rows values d v w l en ek h p ev q =
     set-modify (entriesSet start n values) rows k d v q
-    ∙ ap (modify (entriesSet start n values) k) (filled-all (map (entriesSet start n zeros) (a .rows)) rows i (omega arith) (omega (arith, length-map (a .rows) (entriesSet start n zeros))) p)
-    ∙ (λ r. modify (entriesSet (es r) (en r) (ev r)) (ek r) (map (entriesSet (es r) (en r) zeros) (a .rows)))
+    ∙ ap (modify (entriesSet start n values) k) (filled-all (map (entriesSet start n zeros) given) rows i (omega arith) (omega (arith, length-map given (entriesSet start n zeros))) p)
+    ∙ (λ r. modify (entriesSet start (en r) (ev r)) (ek r) (map (entriesSet start (en r) zeros) given))
 
 -- there is room for three entries more
 pub room : (a : Arm) → length (a .links) ≡ linkLimit → a .«link_count» < linkLimit → dofCountOf a + 3 ≤ dofLimit

@@ -3,3 +3,4 @@ pub mod Tests
 mod Finite
 pub mod Added
 pub mod Addition
+pub mod Placed

@@ -6,15 +6,12 @@ use mathlib.Core.List.{List}
 use native.Mathlib.Omega.{arith}
 use borrow.Author.Tests.{leb-true, ltb-true, eqb-true}
 use lib.Dec.{eqb, ltb}
-use lib.ListN.{length, take}
 use lib.Ieee.{Float}
 use Rattle.limits.specs.Limits.{linkLimit}
 use Rattle.topology.specs.Parents.{parentFits}
-use Rattle.arm.specs.declared.Link.{Link}
 use Rattle.arm.specs.declared.Arm.{Arm}
-use Rattle.arm.specs.Arm.{liveLinks, linksOf, tagOf, tagsOf}
-use Rattle.arm.specs.HandedIn.{every, differs, isNew, armRefusal}
-use Rattle.arm.proofs.Every.{Tested, front-all, every-map}
+use Rattle.arm.specs.Arm.{tagsOf}
+use Rattle.arm.specs.HandedIn.{isNew, armRefusal}
 use Rattle.arm.proofs.Accepted.{both-hold}
 use Rattle.working.specs.Outcome.{tablesFit}
 use Rattle.settled.specs.Above.{aboveFinite}
@@ -22,18 +19,6 @@ use Rattle.settled.proofs.Lowest.{none-of, holds}
 use Rattle.addition.specs.declared.NewLink.{NewLink}
 use Rattle.addition.specs.NewLink.{Small}
 use Rattle.addition.specs.Addition.{eachMask, masksFit, floatsFinite, addRefusal}
-
--- ---- the tag
-
-abbrev pub otherTag : ℕ → Link → Bool
-otherTag tag l = differs tag (tagOf l)
-
-pub tag-tested : (a : Arm) (tag n i : ℕ) (new : Bool) → length (a .links) ≡ linkLimit → n ≡ liveLinks a → n ≤ i → Tested (otherTag tag) (take n (a .links)) i new → new ≡ isNew tag (tagsOf a)
-unfolding tagsOf linksOf
-tag-tested a tag n i new w e h t =
-    front-all (otherTag tag) (a .links) n (omega arith) i new h t
-    ∙ ap (λ (k : ℕ). every (otherTag tag) (take k (a .links))) e
-    ∙ sym (every-map (differs tag) tagOf (take (liveLinks a) (a .links)))
 
 -- ---- the masks
 

@@ -57,12 +57,15 @@ linkOf new = record {
 unfoldable pub entriesSet : ℕ → ℕ → List Float → Row → Row
 entriesSet start n values row = record { entries = withPart start n (take n values) (row .entries) }
 
--- behind the arm's own entries, one for each of the mask's DoFs: +0 in each row, then the default damping in its row
-unfoldable pub rowsWith : Arm → ℕ → List Row
-rowsWith a mask =
-    let start = dofCountOf a in
+-- from `start` on, one for each of the mask's DoFs: +0 in each row, then the default damping in its row
+abbrev pub rowsFrom : ℕ → ℕ → List Row → List Row
+rowsFrom start mask rows =
     let n = dofsOf mask in
-    modify (entriesSet start n (laid (dampingRow mask) zeros)) (rowNumber Damping) (map (entriesSet start n zeros) (a .rows))
+    modify (entriesSet start n (laid (dampingRow mask) zeros)) (rowNumber Damping) (map (entriesSet start n zeros) rows)
+
+-- behind the arm's own entries
+unfoldable pub rowsWith : Arm → ℕ → List Row
+rowsWith a mask = rowsFrom (dofCountOf a) mask (a .rows)
 
 -- the arm with the link behind its last, and nothing worked out
 unfoldable pub addedInputs : Arm → NewLink → Arm

@@ -1,26 +1,30 @@
 // The addition of a link at the end of the list: it starts with zero coordinates and springs, takes its row entries, and is worked out from what is kept
 // of its parent.
 ghost use mathlib.Core.Path.{_≡_};
-ghost use Prim.Native.Nat.{_+_, _≤_, _<_};
+ghost use Prim.Native.Nat.{min, _+_, _≤_};
+ghost use lib.ListN.{take};
 ghost use Rattle.limits.specs.Limits.{linkLimit, dofLimit};
 ghost use Rattle.masks.specs.Masks.{dampingRow};
 ghost use Rattle.masks.specs.Answers.{laid};
-ghost use Rattle.arm.specs.Arm.{tagsOf, dofCountOf};
-ghost use Rattle.arm.specs.HandedIn.{isNew};
+ghost use Rattle.arm.specs.HandedIn.{isNew, handedIn};
 ghost use Rattle.working.specs.Outcome.{out};
-ghost use Rattle.addition.specs.NewLink.{Small, linkOf, entriesSet, zeros, rowsWith, addedInputs};
+ghost use Rattle.addition.specs.NewLink.{Small, linkOf, entriesSet, zeros, rowsFrom};
 ghost use Rattle.addition.specs.Addition.{masksFit, floatsFinite, turnsFit, addRefusal, linkAdded};
 use arm::Arm;
 use arm::Edited;
+use arm::HandedIn;
 use arm::Link;
 use arm::Row;
 use arm::RowName;
-use arm::arm_refusal;
-use arm::dof_count;
+use arm::handed_in;
+use arm::is_new;
 use arm::live_links;
 use arm::row_number;
+use arm::start_among;
 use floats::copy;
+use kinematics::refresh_one;
 use limits::LINKS;
+use limits::fewer;
 use masks::default_damping;
 use masks::dofs;
 use masks::is_mask;
@@ -37,7 +41,6 @@ use refusal::unless;
 use settled::is_finite_above;
 use topology::parent_fits;
 use working::tables_fit;
-use working::work_one;
 
 // What the caller gives of a link. Numbers are any, so that none is cut.
 #[repr(C)]
@@ -54,19 +57,12 @@ pub struct NewLink {
 
 // ---- What it refuses
 
-// Is the tag none of the arm's?
-fn is_new_tag(arm: Arm, tag: u32) -> bool
-    ensures { λ r. ⌜ r ≡ isNew tag (tagsOf arm) ⌝ }
+// Is it none of as many tags as count?
+fn is_new_tag(tags: [u32; LINKS], count: usize, tag: u32) -> bool
+    ensures { λ r. ⌜ r ≡ isNew tag (take (min count linkLimit) tags) ⌝ }
 {
-    let n = live_links(arm.link_count);
-    let mut new = true;
-    let mut i = 0;
-    while i < n {
-        let l = arm.links[i];
-        new = new & (l.tag != tag);
-        i += 1;
-    }
-    new
+    let n = live_links(count);
+    is_new(tag, &tags[0..n])
 }
 
 // A root's locked mask is 7 or 0.
@@ -92,24 +88,26 @@ fn turns_fit(new: NewLink) -> bool
     is_turn(rotation_of(new.frame1)) & is_turn(rotation_of(new.frame2))
 }
 
-fn add_refusal(arm: Arm, tables: &[f32], new: NewLink) -> u8
+fn add_refusal(arm: Arm, handed: HandedIn, tables: &[f32], new: NewLink) -> u8
+    requires { ⌜ handed ≡ handedIn arm ⌝ }
     ensures { λ r. ⌜ r ≡ addRefusal arm (now (tables .entry)) new ⌝ }
 {
     let n = arm.link_count;
+    let tags = handed.tags;
     let above = is_finite_above(n, new.parent, tables);
     lower(
         unless(tables_fit(tables), 1),
         lower(
             unless(n < LINKS, 2),
             lower(
-                unless(is_new_tag(arm, new.tag), 3),
+                unless(is_new_tag(tags, n, new.tag), 3),
                 lower(
                     unless(parent_fits(n, new.parent as usize), 4),
                     lower(
                         unless(masks_fit(n, new), 5),
                         lower(
                             unless(is_finite_new(new) & above, 7),
-                            lower(unless(turns_fit(new), 8), arm_refusal(arm)),
+                            lower(unless(turns_fit(new), 8), handed.refusal),
                         ),
                     ),
                 ),
@@ -176,17 +174,16 @@ fn with_entries(row: Row, start: usize, n: usize, values: [f32; 3]) -> Row
 }
 
 // Damping by default, +0 in the other rows.
-fn with_new_entries(arm: Arm, mask: u8) -> [Row; 5]
-    requires { ⌜ (mask ≤ 7) × (dofCountOf arm + 3 ≤ dofLimit) ⌝ }
-    ensures { λ r. ⌜ r ≡ rowsWith arm mask ⌝ }
+fn with_new_entries(given: [Row; 5], start: usize, mask: u8) -> [Row; 5]
+    requires { ⌜ (mask ≤ 7) × (start + 3 ≤ dofLimit) ⌝ }
+    ensures { λ r. ⌜ r ≡ rowsFrom start mask given ⌝ }
 {
-    let start = dof_count(arm);
     let n = dofs(mask);
     let none = [0.0f32; 3];
-    let mut rows = arm.rows;
+    let mut rows = given;
     let mut i = 0;
     while i < 5 {
-        let row = arm.rows[i];
+        let row = given[i];
         rows[i] = with_entries(row, start, n, none);
         i += 1;
     }
@@ -196,36 +193,42 @@ fn with_new_entries(arm: Arm, mask: u8) -> [Row; 5]
     rows
 }
 
-// The arm with the link behind its last, and nothing worked out.
-fn with_link(arm: Arm, new: NewLink) -> Arm
-    requires { ⌜ (arm .«link_count» < linkLimit) × Small new ⌝ }
-    ensures { λ r. ⌜ r ≡ addedInputs arm new ⌝ }
-{
-    let n = arm.link_count;
-    let link = link_of(new);
-    let rows = with_new_entries(arm, new.locked as u8);
-    let couplings = arm.couplings;
-    let mut links = arm.links;
-    links[n] = link;
-    Arm {
-        link_count: n + 1,
-        coupling_count: arm.coupling_count,
-        links,
-        couplings,
-        rows,
-    }
-}
-
 // ---- The addition
 
 // A link is added behind the last, and it alone is worked out; nothing else is touched.
 pub fn add_link(arm: Arm, tables: &mut [f32], new: NewLink) -> Edited
     ensures { λ e. ⌜ out e (now (tables .exit)) ≡ linkAdded arm (now (tables .entry)) new ⌝ }
 {
-    let refusal = add_refusal(arm, tables, new);
+    let handed = handed_in(arm);
+    let refusal = add_refusal(arm, handed, tables, new);
     if refusal != 0 {
         return Edited { refusal, arm };
     }
-    let added = with_link(arm, new);
-    work_one(arm, added, arm.link_count, tables)
+    let n = arm.link_count;
+    let masks = handed.masks;
+    let start = start_among(masks, n, n);
+    let mut links = arm.links;
+    let link = link_of(new);
+    let p = fewer(link.parent as usize, n);
+    let above = links[p];
+    let t = refresh_one(link, above, start, n, tables);
+    if !t.fine {
+        return Edited { refusal: 12, arm };
+    }
+    let turned = t.link;
+    links[n] = turned;
+    let couplings = arm.couplings;
+    let given = arm.rows;
+    let rows = with_new_entries(given, start, new.locked as u8);
+    let added = Arm {
+        link_count: n + 1,
+        coupling_count: arm.coupling_count,
+        links,
+        couplings,
+        rows,
+    };
+    Edited {
+        refusal: 0,
+        arm: added,
+    }
 }

@@ -1,21 +1,13 @@
 -- A test of each of a list, as a loop makes it: what is tested so far, with what is left, is the whole test. Assumes nothing.
 use Prim.Native.Nat.{ℕ, suc, _+_, _≤_, _<_}
-use mathlib.Core.Path.{_≡_, refl, sym, _∙_, ap}
-use mathlib.Core.Bool.{Bool, true, false, _&&_}
+use mathlib.Core.Path.{_≡_, refl, sym, subst, _∙_, ap}
+use mathlib.Core.Bool.{Bool, true, false, _&&_, and-true, and-assoc}
 use mathlib.Core.List.{List, [], _∷_, map}
 use native.Mathlib.Omega.{arith}
 use native.Mathlib.Numerals.{add-one}
 use lib.ListN.{length, take, drop, getD, drop-of-length-le}
 use lib.Seq.{drop-cons, getD-take, length-take-le}
 use Rattle.arm.specs.HandedIn.{every, isNew, unique}
-
-and-assoc : (a b c : Bool) → (a && (b && c)) ≡ ((a && b) && c)
-and-assoc true b c = refl
-and-assoc false b c = refl
-
-and-true : (a : Bool) → (a && true) ≡ a
-and-true true = refl
-and-true false = refl
 
 module _ {A : Type 0} (test : A → Bool) where
   every-cons : (x : A) (xs : List A) → every test (x ∷ xs) ≡ (test x && every test xs)
@@ -35,10 +27,14 @@ module _ {A : Type 0} (test : A → Bool) where
 
   pub tested-more : (xs : List A) (i : ℕ) (ok r : Bool) (d : A) → i < length xs → r ≡ test (getD xs i d) → Tested xs i ok
       → Tested xs (i + 1) (ok && r)
-  tested-more xs i ok r d h e t = t ∙ rw (add-one, drop-cons xs i d h, every-cons (getD xs i d) (drop (suc i) xs), e) (and-assoc ok _ _)
+  tested-more xs i ok r d h e t = t ∙ rw (add-one, drop-cons xs i d h, every-cons (getD xs i d) (drop (suc i) xs), e) (sym (and-assoc ok _ _))
 
   pub tested-all : (xs : List A) (i : ℕ) (ok : Bool) → length xs ≤ i → Tested xs i ok → ok ≡ every test xs
   tested-all xs i ok h t = sym (t ∙ rw (drop-of-length-le xs h, every-none) (and-true ok))
+
+  -- where one has failed, no more need be tested
+  pub tested-failed : (xs : List A) (i j : ℕ) (ok f : Bool) → ok ≡ false → f ≡ ok → Tested xs i ok → Tested xs j f
+  tested-failed xs i j ok f e q t = t ∙ rw (q, e)
 
   -- the same of the first n of a list
   module _ (xs : List A) (n : ℕ) (fits : n ≤ length xs) where
@@ -46,6 +42,10 @@ module _ {A : Type 0} (test : A → Bool) where
         → Tested (take n xs) (i + 1) (ok && r)
     front-more i ok r d h e t =
         tested-more (take n xs) i ok r d (omega (arith, length-take-le n xs fits)) (e ∙ ap test (sym (getD-take n xs i d h))) t
+
+    -- of the next, where none has failed
+    pub front-next : (i : ℕ) (ok f : Bool) (d : A) → i < n → ok ≡ true → f ≡ test (getD xs i d) → Tested (take n xs) i ok → Tested (take n xs) (i + 1) f
+    front-next i ok f d h o e t = subst (λ (b : Bool). Tested (take n xs) (i + 1) (b && f)) o (front-more i ok f d h e t)
 
     pub front-all : (i : ℕ) (ok : Bool) → n ≤ i → Tested (take n xs) i ok → ok ≡ every test (take n xs)
     front-all i ok h t = tested-all (take n xs) i ok (omega (arith, length-take-le n xs fits)) t
@@ -74,7 +74,7 @@ pub unique-more : (ts : List ℕ) (i : ℕ) (ok r : Bool) → i < length ts → 
     → TestedUnique ts (i + 1) (ok && r)
 unique-more ts i ok r h e t =
     t
-    ∙ rw (e, add-one, drop-cons ts i 0 h, unique-cons (getD ts i 0) (drop (suc i) ts)) (and-assoc ok _ _)
+    ∙ rw (e, add-one, drop-cons ts i 0 h, unique-cons (getD ts i 0) (drop (suc i) ts)) (sym (and-assoc ok _ _))
 
 pub unique-all : (ts : List ℕ) (i : ℕ) (ok : Bool) → length ts ≤ i → TestedUnique ts i ok → ok ≡ unique ts
 unique-all ts i ok h t = sym (t ∙ rw (drop-of-length-le ts h, unique-none) (and-true ok))

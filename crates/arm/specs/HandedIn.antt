@@ -142,10 +142,11 @@ padded zero xs = []
 padded (suc n) [] = 0 ∷ padded n []
 padded (suc n) (x ∷ xs) = x ∷ padded n xs
 
--- the refusal, and the links' parents and locked masks
+-- the refusal, and the links' tags, parents and locked masks
 unfoldable pub handedIn : Arm → HandedIn
 handedIn a = record {
   refusal = armRefusal a;
+  tags = padded linkLimit (tagsOf a);
   parents = padded linkLimit (parentsOf a);
   masks = padded linkLimit (masksOf a);
 }

@@ -8,13 +8,14 @@ ghost use Rattle.limits.specs.Limits.{linkLimit, dofLimit};
 ghost use Rattle.masks.specs.Starts.{startOf};
 ghost use Rattle.topology.specs.Parents.{parentsFit};
 ghost use Rattle.arm.specs.Arm.{parentOf, lockedOf, startAt, dofCountOf, maskAt, rowNumber};
-ghost use Rattle.arm.specs.Edits.{dofAmong, dofAt};
+ghost use Rattle.arm.specs.Edits.{withLinks, dofAmong, dofAt};
 ghost use Rattle.arm.specs.HandedIn.{every, isNew, unique, jointMasksFit, jointFinite, linkFinite, angleFits, linkTestsOf, couplingLinksFit, couplingAxesFit, couplingFinite, couplingTestsOf, rootMaskFits, rowFinite, handedIn, armRefusal};
 use floats::all_finite;
 use floats::finite;
 use limits::COUPLINGS;
 use limits::DOFS;
 use limits::LINKS;
+use limits::fewer;
 use masks::dofs;
 use masks::dofs_below;
 use masks::is_axis;
@@ -84,12 +85,6 @@ pub struct Edited {
 }
 
 // ---- What counts
-
-fn fewer(a: usize, b: usize) -> usize
-    ensures { λ r. ⌜ r ≡ min a b ⌝ }
-{
-    if a < b { a } else { b }
-}
 
 // How many links count: never more than fit.
 pub fn live_links(count: usize) -> usize
@@ -185,6 +180,21 @@ pub fn dof_at(arm: Arm, link: usize, axis: u8) -> usize
     dof_among(masks_of(arm), arm.link_count, link, axis)
 }
 
+// The arm with other links.
+pub fn with_links(arm: Arm, links: [Link; LINKS]) -> Arm
+    ensures { λ r. ⌜ r ≡ withLinks arm links ⌝ }
+{
+    let couplings = arm.couplings;
+    let rows = arm.rows;
+    Arm {
+        link_count: arm.link_count,
+        coupling_count: arm.coupling_count,
+        links,
+        couplings,
+        rows,
+    }
+}
+
 pub fn row_number(name: RowName) -> usize
     ensures { λ r. ⌜ r ≡ rowNumber name ⌝ }
 {
@@ -200,7 +210,7 @@ pub fn row_number(name: RowName) -> usize
 // ---- Tags
 
 // Is it none of the others?
-fn is_new(tag: u32, others: &[u32]) -> bool
+pub fn is_new(tag: u32, others: &[u32]) -> bool
     ensures { λ r. ⌜ r ≡ isNew tag (now (others .entry)) ⌝ }
 {
     let mut new = true;
@@ -300,7 +310,9 @@ fn link_tests(arm: Arm) -> LinkTests
         parents[i] = l.parent;
         locked[i] = l.joint.locked;
         masks = masks & masks_fit(l.joint);
-        floats = floats & is_finite_link(l);
+        if floats {
+            floats = is_finite_link(l);
+        }
         angles = angles & angle_fits(l.joint);
         i += 1;
     }
@@ -410,10 +422,11 @@ fn rows_finite(rows: [Row; 5], n: usize) -> bool
 
 // ---- The arm handed in
 
-// What is found of an arm handed in: the lowest of rules 2 to 5, 7 and 9 that it breaks, and its links' parents and locked masks, with 0 in unused
+// What is found of an arm handed in: the lowest of rules 2 to 5, 7 and 9 that it breaks, and its links' tags, parents and locked masks, with 0 in unused
 // places.
 pub struct HandedIn {
     pub refusal: u8,
+    pub tags: [u32; LINKS],
     pub parents: [u8; LINKS],
     pub masks: [u8; LINKS],
 }
@@ -450,6 +463,7 @@ pub fn handed_in(arm: Arm) -> HandedIn
     );
     HandedIn {
         refusal,
+        tags,
         parents,
         masks,
     }

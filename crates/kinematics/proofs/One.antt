@@ -1,28 +1,81 @@
--- The pass over one link alone: before its turn nothing has changed, and after it nothing does. Assumes nothing.
-use mathlib.Core.Path.{_≡_, refl, sym, ap, _∙_, subst}
+-- One link alone: its turn is what is stated of it; and so is the pass over it, as before its turn nothing has changed and after it nothing does. Assumes
+-- nothing.
+use mathlib.Core.Path.{_≡_, refl, sym, ap, ap₂, _∙_, subst}
 use mathlib.Core.Logic.{_≢_}
-use Prim.Native.Nat.{ℕ, zero, suc, min, _*_, _-_, _≤_, _<_}
-use mathlib.Core.Bool.{Bool, true, false, cond, _&&_}
-use mathlib.Core.List.{List, [], _∷_, map}
+use Prim.Native.Nat.{ℕ, zero, suc, min, _-_, _≤_, _<_}
+use mathlib.Core.Bool.{Bool, true, false, cond, _&&_, and-true, and-false}
+use mathlib.Core.List.{List, map}
 use native.Mathlib.Omega.{arith}
 use native.Mathlib.Decide.{decLt}
-use borrow.Author.Tests.{eq-eqb, ne-eqb, ltb-true}
+use borrow.Author.Tests.{eq-eqb, ne-eqb, ltb-true, leb-true, lt-ltb, le-ltb, le-leb, lt-leb}
 use lib.Dec.{leb, ltb}
 use lib.ListN.{length, set}
-use lib.Seq.{getD-set-same}
+use lib.Seq.{set-getD}
 use lib.Ieee.{Float}
-use Rattle.limits.specs.Limits.{linkLimit, blockSize, tableSize}
+use Rattle.limits.specs.Limits.{linkLimit, dofLimit, tableSize}
 use Rattle.masks.specs.Starts.{startOf}
 use Rattle.arm.specs.declared.Link.{Link}
-use Rattle.kinematics.specs.Blocks.{zeroBlock, blockAt, withBlock, copiedFrom}
-use Rattle.kinematics.specs.Link.{posedOf, finiteKept, TurnedTo}
+use Rattle.kinematics.specs.Blocks.{zeroBlock, blockAt, withBlock}
+use Rattle.kinematics.specs.Link.{Kept, Inputs, posedOf, rootPosed, keptOf, rootKept, laterKept, finiteKept, withKept, TurnedTo}
 use Rattle.kinematics.specs.Pass.{run}
-use Rattle.kinematics.specs.State.{State, state, noLink, linkAt, lockedOf, only, putKept, stateAfter, fineAfter, laid, newBlock}
-use Rattle.kinematics.specs.Answers.{Outcome, out, passed, refreshMarked, turnedOut, refreshOne}
-use Rattle.kinematics.specs.declared.Refreshed.{Refreshed}
-use Rattle.kinematics.proofs.Small.{and-true}
-use Rattle.kinematics.proofs.Turns.{newOf, fineTo, fine-all, Turn, turned}
-use Rattle.kinematics.proofs.Ends.{marked-short, zeros, zeros-length, passed-no, passed-yes, is-marked}
+use Rattle.kinematics.specs.State.{State, state, noLink, linkAt, parentOf, lockedOf, inputsOf, keptIn, keptAt, only, putKept, resultOf, stateAfter, fineAfter}
+use Rattle.kinematics.specs.Answers.{Outcome, out, passed, refreshMarked, TurnedOutcome, turnedOut, oneKept, oneFits, refreshOne}
+use Rattle.kinematics.proofs.Small.{and-left, and-right}
+use Rattle.kinematics.proofs.Turns.{start-room, newOf, fineTo, fine-all, Turn, turned-kept}
+use Rattle.kinematics.proofs.Ends.{marked-short, is-marked}
+
+-- ---- its turn
+
+-- what it is to fit
+pub fits : (start j : ℕ) (t : List Float) → oneFits start j t ≡ true → (tableSize ≤ length t) × (j < linkLimit) × (start ≤ dofLimit - 3)
+fits start j t h =
+    let both = and-left _ (leb start (dofLimit - 3)) h in
+    (leb-true _ _ (and-left _ (ltb j linkLimit) both), ltb-true _ _ (and-right (leb tableSize (length t)) _ both), leb-true _ _ (and-right (leb tableSize (length t) && ltb j linkLimit) _ h))
+
+module _ (l above : Link) (start j : ℕ) (t : List Float) where
+  abbrev x : Inputs
+  x = record { joint = l .joint; centre = l .centre; start = start; above = above .centre }
+
+  abbrev up : Kept
+  up = keptIn above (blockAt (l .parent) t)
+
+  pub one-unfit : oneFits start j t ≡ false → turnedOut (record { link = l; fine = false }) t ≡ refreshOne l above start j t
+  unfolding refreshOne
+  one-unfit h = rw h
+
+  module _ (p : ℕ) (ep : p ≡ min (l .parent) j) (copied own : List Float) (ec : copied ≡ cond (ltb p j) (blockAt p t) zeroBlock) (link : Link) (fine : Bool)
+      (turn : TurnedTo (posedOf (ltb p j) above l) l start copied own link fine) where
+    first : ltb p j ≡ false → Turn l link own fine (rootKept x)
+    unfolding rootKept posedOf
+    first q =
+        turned-kept _ _ l x start copied _ own link fine (ap (λ (m : Bool). posedOf m above l) q) (ec ∙ ap (λ (m : Bool). cond m (blockAt p t) zeroBlock) q) refl refl turn
+
+    later : p ≡ l .parent → ltb p j ≡ true → Turn l link own fine (laterKept up x)
+    unfolding laterKept posedOf
+    later e q =
+        turned-kept _ _ l x start copied _ own link fine (ap (λ (m : Bool). posedOf m above l) q) (ec ∙ ap₂ (λ (m : Bool) (k : ℕ). cond m (blockAt k t) zeroBlock) q e) refl refl turn
+
+    its : Turn l link own fine (oneKept l above start j t)
+    unfolding oneKept
+    its = elim (decLt (l .parent) j) [
+      | yes q ↦
+          subst (λ (m : Bool). Turn l link own fine (cond m (laterKept up x) (rootKept x))) (sym (lt-ltb (l .parent) j q)) (later (omega arith) (lt-ltb p j (omega arith)))
+      | no q ↦
+          subst (λ (m : Bool). Turn l link own fine (cond m (laterKept up x) (rootKept x))) (sym (le-ltb (l .parent) j (omega arith))) (first (le-ltb p j (omega arith)))
+    ]
+
+    pub one-no : fine ≡ false → turnedOut (record { link = l; fine = false }) t ≡ refreshOne l above start j t
+    unfolding refreshOne
+    one-no q = rw (sym (its .test) ∙ q, and-false (oneFits start j t))
+
+    pub one-yes : oneFits start j t ≡ true → fine ≡ true → (m : List Float) → m ≡ withBlock j own t
+        → turnedOut (record { link = link; fine = fine }) m ≡ refreshOne l above start j t
+    unfolding refreshOne
+    one-yes h q m e =
+        rw (h, sym (its .test) ∙ q)
+        (λ i. turnedOut (record { link = its .place i; fine = q i }) ((e ∙ ap (λ (b : List Float). withBlock j b t) (its .block)) i))
+
+-- ---- the pass over it
 
 module _ (j : ℕ) where
   own : only j j ≡ true
@@ -30,11 +83,6 @@ module _ (j : ℕ) where
 
   other : (k : ℕ) → k ≢ j → only j k ≡ false
   other k ne = ne-eqb k j ne
-
-  laid-before : (new : ℕ → List Float) (w : List Float) (n : ℕ) → n ≤ j → w ≡ laid (only j) new n w
-  unfolding laid
-  laid-before new w zero h = refl
-  laid-before new w (suc n) h = rw (other n (omega arith)) (laid-before new w n (omega arith))
 
   module _ (ls : List Link) (t : List Float) where
     before : (n : ℕ) → n ≤ j → stateAfter ls n (only j) t ≡ state ls t
@@ -68,117 +116,68 @@ module _ (j : ℕ) where
       | no q ↦ let e : n ≡ j = omega arith in ap (λ (k : ℕ). fineTo ls (only j) t (suc k)) e ∙ fine-at
     ]
 
--- ---- what the call answers
+-- a root's results don't depend on what stands for its parent
+root-same : (x y : Inputs) → x .joint ≡ y .joint → x .centre ≡ y .centre → x .start ≡ y .start → rootKept x ≡ rootKept y
+unfolding rootKept keptOf
+root-same x y a b c = λ i. keptOf (rootPosed (a i) (b i)) (record { joint = a i; centre = b i; start = c i; above = x .above }) zeroBlock
 
--- from what the marked pass leaves to what is told of the one link
-module _ (ls : List Link) (n j : ℕ) (t : List Float) (at : ℕ) (ea : at ≡ min j (linkLimit - 1)) where
-  told : (r : Refreshed) (m : List Float) → out r m ≡ refreshMarked ls n (only j) t → (link : Link) (fine : Bool) → link ≡ linkAt (r .links) at → fine ≡ r .fine
-      → turnedOut (record { link = link; fine = fine }) m ≡ refreshOne ls n j t
-  unfolding refreshOne
-  told r m e link fine el ef =
-      (λ i. turnedOut (record { link = (el ∙ ap (linkAt (r .links)) ea) i; fine = ef i }) m)
-      ∙ ap (λ (o : Outcome). turnedOut (record { link = linkAt (o .answer .links) (min j (linkLimit - 1)); fine = o .answer .fine }) (o .memory)) e
+-- what is told of one link, as it is told of all
+abbrev pub asMarked : List Link → ℕ → TurnedOutcome → Outcome
+asMarked ls j o = out (record { fine = o .answer .fine; links = set ls j (o .answer .link) }) (o .memory)
 
-  pub one-short : length t < tableSize → turnedOut (record { link = linkAt ls at; fine = false }) t ≡ refreshOne ls n j t
-  one-short h = told (record { fine = false; links = ls }) t (marked-short ls n t (only j) h) _ _ refl refl
-
-module _ (ls : List Link) (sized : length ls ≡ linkLimit) (t : List Float) (long : tableSize ≤ length t) (count n : ℕ) (e : n ≡ min count linkLimit)
-    (j at : ℕ) (ea : at ≡ min j (linkLimit - 1)) where
-  fit : n ≤ linkLimit
-  fit = omega arith
-
-  -- no such link counts
-  pub one-none : n ≤ j → turnedOut (record { link = linkAt ls at; fine = true }) t ≡ refreshOne ls count j t
-  one-none h =
-      told ls count j t at ea (record { fine = true; links = ls }) t
-      (passed-yes _ _ ls t (sym (fine-all ls (only j) t n fit sized long) ∙ fine-before j ls t n h) (record { fine = true; links = ls }) t refl
-      (ap (λ (s : State). s .links) (sym (before j ls t n h)))
-      (ap (λ (s : State). s .tables) (sym (before j ls t n h)))
-      ∙ is-marked ls count t (only j) n e long) _ _ refl refl
-
-  module _ (h : j < n) (p start : ℕ) (ep : p ≡ min (linkAt ls at .parent) at) (es : start ≡ startOf (map lockedOf ls) at) (copied own : List Float)
-      (ec : copied ≡ cond (ltb p at) (blockAt p t) zeroBlock) (link : Link) (fine : Bool)
-      (turn : TurnedTo (posedOf (ltb p at) (linkAt ls p) (linkAt ls at)) (linkAt ls at) start copied own link fine) where
-    same : at ≡ j
-    same = omega arith
-
-    -- its parent is not marked
-    from-tables : (m : Bool) → ltb p at ≡ m → cond m (blockAt p t) zeroBlock ≡ copiedFrom m (only at p) (p * blockSize) t zeros
-    unfolding copiedFrom
-    from-tables true q = rw (other at p (omega (arith, ltb-true p at q)))
-    from-tables false q = refl
-
-    its : Turn (linkAt ls at) link own fine (newOf ls (only at) t at)
-    its =
-        turned ls n fit sized (only at) t zeros long zeros-length at (omega arith) ls (ap (λ (s : State). s .links) (sym (before at ls t at (omega arith)))) zeros
-        (laid-before at (newBlock ls (only at) t) zeros at (omega arith)) p start ep es copied own (ec ∙ from-tables (ltb p at) refl) link fine turn
-
-    tested : fineAfter ls n (only at) t ≡ fine
-    tested = sym (fine-all ls (only at) t n fit sized long) ∙ fine-after at ls t n (omega arith) ∙ sym (its .test)
-
-    to-j : (o : Outcome) → o ≡ refreshMarked ls count (only at) t → o ≡ refreshMarked ls count (only j) t
-    to-j o q = q ∙ ap (λ (k : ℕ). refreshMarked ls count (only k) t) same
-
-    pub one-no : fine ≡ false → turnedOut (record { link = linkAt ls at; fine = false }) t ≡ refreshOne ls count j t
-    one-no q =
-        told ls count j t at ea (record { fine = false; links = ls }) t
-        (to-j _ (passed-no _ _ ls t (tested ∙ q) ∙ is-marked ls count t (only at) n e long)) _ _ refl refl
-
-    left : stateAfter ls n (only at) t ≡ state (set ls at link) (withBlock at own t)
-    unfolding putKept
-    left = after at ls t n (omega arith) ∙ sym (λ i. state (set ls at (its .place i)) (withBlock at (its .block i) t))
-
-    pub one-yes : fine ≡ true → (m : List Float) → m ≡ withBlock at own t → turnedOut (record { link = link; fine = fine }) m ≡ refreshOne ls count j t
-    one-yes q m y =
-        told ls count j t at ea (record { fine = true; links = set ls at link }) m
-        (to-j _
-        (passed-yes _ _ ls t (tested ∙ q) (record { fine = true; links = set ls at link }) m refl
-        (ap (λ (s : State). s .links) (sym left))
-        (y ∙ ap (λ (s : State). s .tables) (sym left))
-        ∙ is-marked ls count t (only at) n e long)) _ _ (sym (getD-set-same ls at link noLink (omega arith))) q
-
--- ---- the other links
-
-set-self : (ls : List Link) (j : ℕ) → ls ≡ set ls j (linkAt ls j)
-set-self [] j = refl
-set-self (l ∷ ls) zero = refl
-set-self (l ∷ ls) (suc j) = ap (λ (x : List Link). l ∷ x) (set-self ls j)
-
-set-there : (ls links : List Link) (j : ℕ) (l : Link) → j < length ls → links ≡ set ls j l → links ≡ set ls j (linkAt links j)
-set-there ls links j l h e = e ∙ ap (set ls j) (sym (ap (λ (x : List Link). linkAt x j) e ∙ getD-set-same ls j l noLink h))
-
-pub set-past : (ls : List Link) (j : ℕ) (l : Link) → length ls ≤ j → ls ≡ set ls j l
-set-past [] j l h = refl
-set-past (x ∷ ls) zero l h = absurd (omega arith)
-set-past (x ∷ ls) (suc j) l h = ap (λ (y : List Link). x ∷ y) (set-past ls j l (omega arith))
-
-module _ (ls : List Link) (sized : length ls ≡ linkLimit) (t : List Float) (count j : ℕ) where
+-- l stands in link j's place, and `above` in its parent's
+module _ (ls : List Link) (sized : length ls ≡ linkLimit) (t : List Float) (count j : ℕ) (there : j < min count linkLimit) (above : Link)
+    (ea : linkAt ls j .parent < j → above ≡ linkAt ls (linkAt ls j .parent)) (start : ℕ) (es : start ≡ startOf (map lockedOf ls) j) where
   abbrev n : ℕ
   n = min count linkLimit
 
-  after-set : j < linkLimit → stateAfter ls n (only j) t .links ≡ set ls j (linkAt (stateAfter ls n (only j) t .links) j)
-  unfolding putKept
-  after-set h = elim (decLt j n) [
-    | yes q ↦ set-there ls _ j _ (omega arith) (ap (λ (s : State). s .links) (after j ls t n q))
-    | no q ↦ subst (λ (x : List Link). x ≡ set ls j (linkAt x j)) (sym (ap (λ (s : State). s .links) (before j ls t n (omega arith)))) (set-self ls j)
+  abbrev p : ℕ
+  p = linkAt ls j .parent
+
+  abbrev k : Kept
+  k = oneKept (linkAt ls j) above start j t
+
+  kept : resultOf ls (state ls t) j ≡ k
+  unfolding oneKept inputsOf keptAt parentOf
+  kept = elim (decLt p j) [
+    | yes q ↦
+        let e : linkAt ls p ≡ above = sym (ea q) in
+        rw (lt-ltb p j q)
+        (λ i. laterKept (keptIn (e i) (blockAt p t)) (record { joint = linkAt ls j .joint; centre = linkAt ls j .centre; start = sym es i; above = e i .centre }))
+    | no q ↦ rw (le-ltb p j (omega arith)) (root-same _ _ refl refl (sym es))
   ]
 
-  -- but for link j's place, the links are as they were
-  pub one-set : refreshMarked ls count (only j) t .answer .links ≡ set ls j (refreshOne ls count j t .answer .link)
-  unfolding refreshMarked refreshOne passed
-  one-set = elim (decLt j linkLimit) [
-    | yes h ↦ here (leb tableSize (length t) && fineAfter ls n (only j) t) (stateAfter ls n (only j) t) h (after-set h)
-    | no h ↦
-        past (leb tableSize (length t) && fineAfter ls n (only j) t) (stateAfter ls n (only j) t) (omega arith)
-        (ap (λ (s : State). s .links) (before j ls t n (omega arith)))
-  ]
-    where
-      here : (f : Bool) (s : State) → j < linkLimit → s .links ≡ set ls j (linkAt (s .links) j)
-          → passed f s ls t .answer .links ≡ set ls j (linkAt (passed f s ls t .answer .links) (min j (linkLimit - 1)))
-      here true s h q = let e : j ≡ min j (linkLimit - 1) = omega arith in q ∙ ap (λ (k : ℕ). set ls j (linkAt (s .links) k)) e
-      here false s h q = let e : j ≡ min j (linkLimit - 1) = omega arith in set-self ls j ∙ ap (λ (k : ℕ). set ls j (linkAt ls k)) e
+  kept-new : newOf ls (only j) t j ≡ k
+  kept-new = ap (λ (s : State). resultOf ls s j) (before j ls t j (omega arith)) ∙ kept
 
-      past : (f : Bool) (s : State) → linkLimit ≤ j → s .links ≡ ls
-          → passed f s ls t .answer .links ≡ set ls j (linkAt (passed f s ls t .answer .links) (min j (linkLimit - 1)))
-      past true s h q = q ∙ set-past ls j _ (omega arith)
-      past false s h q = set-past ls j _ (omega arith)
+  left : stateAfter ls n (only j) t ≡ putKept (state ls t) j k
+  left = after j ls t n there ∙ ap (putKept (state ls t) j) kept-new
+
+  long-marked : tableSize ≤ length t → passed (finiteKept k) (putKept (state ls t) j k) ls t ≡ refreshMarked ls count (only j) t
+  long-marked long =
+      sym
+      (λ i. passed
+      ((sym (fine-all ls (only j) t n (omega arith) sized long) ∙ fine-after j ls t n there ∙ ap finiteKept kept-new) i)
+      (left i) ls t)
+      ∙ is-marked ls count t (only j) n refl long
+
+  told : (f : Bool) → passed f (putKept (state ls t) j k) ls t
+      ≡ asMarked ls j (cond f (turnedOut (record { link = withKept (linkAt ls j) k; fine = true }) (withBlock j (k .block) t)) (turnedOut (record { link = linkAt ls j; fine = false }) t))
+  unfolding passed putKept
+  told true = refl
+  told false = λ i. out (record { fine = false; links = sym (set-getD ls j noLink) i }) t
+
+  -- the pass over link j alone leaves what its turn does
+  pub one-marked : refreshMarked ls count (only j) t ≡ asMarked ls j (refreshOne (linkAt ls j) above start j t)
+  unfolding refreshOne
+  one-marked = elim (decLt (length t) tableSize) [
+    | yes q ↦
+        sym (marked-short ls count t (only j) q)
+        ∙ (λ i. out (record { fine = false; links = sym (set-getD ls j noLink) i }) t)
+        ∙ ap (asMarked ls j) (one-unfit (linkAt ls j) above start j t (rw (lt-leb tableSize (length t) q)))
+    | no q ↦
+        let room = start-room ls j start linkLimit (omega arith) (omega arith) es in
+        sym (long-marked (omega arith))
+        ∙ told (finiteKept k)
+        ∙ rw (le-leb tableSize (length t) (omega arith), lt-ltb j linkLimit (omega arith), le-leb start 45 (omega (arith, room)))
+  ]

@@ -2,7 +2,7 @@
 -- was laid. Assumes nothing.
 use mathlib.Core.Path.{_≡_, refl, sym, ap, ap₂, _∙_, subst}
 use Prim.Native.Nat.{ℕ, zero, suc, min, _+_, _*_, _-_, _≤_, _<_}
-use mathlib.Core.Bool.{Bool, true, false, cond, _&&_}
+use mathlib.Core.Bool.{Bool, true, false, cond, _&&_, and-true}
 use mathlib.Core.List.{List, _++_, map}
 use native.Mathlib.Omega.{arith}
 use native.Mathlib.Numerals.{add-one}
@@ -22,7 +22,6 @@ use Rattle.kinematics.specs.Blocks.{part, zeroBlock, blockAt, withBlock,
 use Rattle.kinematics.specs.Link.{Kept, Inputs, posedOf, laterPosed, rootPosed, blockFrom, keptOf, rootKept, laterKept, finitePlace, finiteKept, withPlace, withKept, TurnedTo}
 use Rattle.kinematics.specs.Pass.{run, allTo}
 use Rattle.kinematics.specs.State.{State, state, noLink, linkAt, parentOf, lockedOf, inputsOf, keptAt, putKept, keptOps, resultOf, stateAfter, fineAfter, laid, newBlock, WorkedOut}
-use Rattle.kinematics.proofs.Small.{and-true}
 use Rattle.kinematics.proofs.Pass.{turn-shape, tests-run}
 use Rattle.kinematics.proofs.Blocks.{part-length, block-same, block-length, lent-part, with-with}
 use Rattle.kinematics.proofs.Laid.{laid-none, laid-block, laid-more, laid-skip}
@@ -102,7 +101,7 @@ pub record Turn (l : Link) (link : Link) (own : List Float) (fine : Bool) (k : K
   pub block : own ≡ k .block
   pub test : fine ≡ finiteKept k
 
-turned-kept : (p p′ : Posed) (l : Link) (x : Inputs) (start : ℕ) (c c′ own : List Float) (link : Link) (fine : Bool) → p ≡ p′ → c ≡ c′ → start ≡ x .start → l .joint ≡ x .joint
+pub turned-kept : (p p′ : Posed) (l : Link) (x : Inputs) (start : ℕ) (c c′ own : List Float) (link : Link) (fine : Bool) → p ≡ p′ → c ≡ c′ → start ≡ x .start → l .joint ≡ x .joint
     → TurnedTo p l start c own link fine → Turn l link own fine (keptOf p′ x c′)
 unfolding keptOf finiteKept
 turned-kept p p′ l x start c c′ own link fine ep ec es ej t =

@@ -1,15 +1,17 @@
--- What the two passes answer and what the lent tables then hold.
+-- What the passes, and the turn of one link alone, answer and what the lent tables then hold.
 use Prim.Native.Nat.{ℕ, min, _-_}
-use mathlib.Core.Bool.{Bool, true, false, _&&_}
+use mathlib.Core.Bool.{Bool, true, false, cond, _&&_}
 use mathlib.Core.List.{List}
-use lib.Dec.{leb}
+use lib.Dec.{leb, ltb}
 use lib.ListN.{length}
 use lib.Ieee.{Float}
-use Rattle.limits.specs.Limits.{linkLimit, tableSize}
+use Rattle.limits.specs.Limits.{linkLimit, dofLimit, tableSize}
 use Rattle.arm.specs.declared.Link.{Link}
 use Rattle.kinematics.specs.declared.Refreshed.{Refreshed}
 use Rattle.kinematics.specs.declared.Turned.{Turned}
-use Rattle.kinematics.specs.State.{State, linkAt, every, only, stateAfter, fineAfter, cleared}
+use Rattle.kinematics.specs.Blocks.{blockAt, withBlock}
+use Rattle.kinematics.specs.Link.{Kept, Inputs, rootKept, laterKept, finiteKept, withKept}
+use Rattle.kinematics.specs.State.{State, keptIn, every, stateAfter, fineAfter, cleared}
 
 pub record Outcome : Type 0 where
   pub answer : Refreshed
@@ -37,11 +39,23 @@ pub record TurnedOutcome : Type 0 where
 abbrev pub turnedOut : Turned → List Float → TurnedOutcome
 turnedOut r t = record { answer = r; memory = t }
 
--- of the marked links one alone, and what is then at its place, or at the last one
-unfoldable pub refreshOne : List Link → ℕ → ℕ → List Float → TurnedOutcome
-refreshOne ls n j t =
-    let o = refreshMarked ls n (only j) t in
-    turnedOut (record { link = linkAt (o .answer .links) (min j (linkLimit - 1)); fine = o .answer .fine }) (o .memory)
+-- what link j works out as, l standing in its place and `above` in its parent's
+unfoldable pub oneKept : Link → Link → ℕ → ℕ → List Float → Kept
+oneKept l above start j t =
+    let x : Inputs = record { joint = l .joint; centre = l .centre; start = start; above = above .centre } in
+    cond (ltb (l .parent) j) (laterKept (keptIn above (blockAt (l .parent) t)) x) (rootKept x)
+
+-- there are tables, a place for it, and three columns from its start on
+abbrev pub oneFits : ℕ → ℕ → List Float → Bool
+oneFits start j t = (leb tableSize (length t) && ltb j linkLimit) && leb start (dofLimit - 3)
+
+-- link j alone, over what is kept of its parent
+unfoldable pub refreshOne : Link → Link → ℕ → ℕ → List Float → TurnedOutcome
+refreshOne l above start j t =
+    let k = oneKept l above start j t in
+    cond (oneFits start j t && finiteKept k)
+    (turnedOut (record { link = withKept l k; fine = true }) (withBlock j (k .block) t))
+    (turnedOut (record { link = l; fine = false }) t)
 
 -- every link, over cleared tables
 unfoldable pub refreshAll : List Link → ℕ → List Float → Outcome

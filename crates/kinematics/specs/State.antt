@@ -54,11 +54,13 @@ pub record State : Type 0 where
 abbrev pub state : List Link → List Float → State
 state ls t = record { links = ls; tables = t }
 
+-- what is kept of a link, in it and in its block
+abbrev pub keptIn : Link → List Float → Kept
+keptIn l block = record { world = l .world; shift02 = l .shift02; shift23 = l .shift23; block = block }
+
 -- what is kept of link j, read and written
 unfoldable pub keptAt : State → ℕ → Kept
-keptAt s j =
-    let l = linkAt (s .links) j in
-    record { world = l .world; shift02 = l .shift02; shift23 = l .shift23; block = blockAt j (s .tables) }
+keptAt s j = keptIn (linkAt (s .links) j) (blockAt j (s .tables))
 
 unfoldable pub putKept : State → ℕ → Kept → State
 putKept s j k = state (set (s .links) j (withKept (linkAt (s .links) j) k)) (withBlock j (k .block) (s .tables))

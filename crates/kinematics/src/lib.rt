@@ -2,14 +2,14 @@
 // Poses and shifts are kept in the links, Jacobian blocks in lent tables.
 ghost use mathlib.Core.Path.{_≡_};
 ghost use mathlib.Core.Bool.{cond};
-ghost use Prim.Native.Nat.{min, _+_, _*_, _≤_, _<_};
+ghost use Prim.Native.Nat.{_+_, _*_, _≤_, _<_};
 ghost use lib.Dec.{ltb};
 ghost use lib.ListN.{length};
 ghost use Rattle.limits.specs.Limits.{linkLimit, dofLimit, blockSize, tableSize};
 ghost use Rattle.kinematics.specs.Blocks.{part, withPart, blockAt, withBlock, zeroBlock, shifted, columnAdded, axisAdded, ownAdded, copiedFrom};
 ghost use Rattle.kinematics.specs.Link.{rootPosed, laterPosed, posedOf, blockFrom, withPlace, finitePlace, TurnedTo};
 ghost use Rattle.kinematics.specs.State.{marked, blocksOf, laid, WorkedOut};
-ghost use Rattle.kinematics.specs.Answers.{out, refreshMarked, turnedOut, refreshOne, refreshAll};
+ghost use Rattle.kinematics.specs.Answers.{out, refreshMarked, oneFits, turnedOut, refreshOne, refreshAll};
 use arm::Link;
 use floats::all_finite;
 use floats::copy;
@@ -17,6 +17,7 @@ use limits::BLOCK;
 use limits::DOFS;
 use limits::LINKS;
 use limits::TABLES;
+use limits::fewer;
 use masks::dofs;
 use masks::dofs_below;
 use masks::is_free;
@@ -183,12 +184,6 @@ fn refresh_link(l: Link, above: Link, later: bool, start: usize, block: &mut [f3
 
 // ---- The pass
 
-fn fewer(a: usize, b: usize) -> usize
-    ensures { λ r. ⌜ r ≡ min a b ⌝ }
-{
-    if a < b { a } else { b }
-}
-
 // A block goes further back in the same list.
 fn move_block(work: &mut [f32], from: usize, to: usize)
     requires { ⌜ (from + blockSize ≤ to) × (to + blockSize ≤ length (now work)) ⌝ }
@@ -335,40 +330,27 @@ fn put_block(tables: &mut [f32], block: &[f32], j: usize)
     copy(&mut tables[at..end], block);
 }
 
-// Link j alone, if it is one of the first n: what `refresh_marked` does of a single mark, without a work area for all links. It gives that link, and where
-// there is no such place the last one.
-pub fn refresh_one(links: [Link; LINKS], n: usize, j: usize, tables: &mut [f32]) -> Turned
-    ensures { λ r. ⌜ turnedOut r (now (tables .exit)) ≡ refreshOne links n j (now (tables .entry)) ⌝ }
+// Are there tables, a place for link j, and three columns from `start` on?
+fn fits_one(tables: &[f32], j: usize, start: usize) -> bool
+    ensures { λ r. ⌜ r ≡ oneFits start j (now (tables .entry)) ⌝ }
 {
-    let at = fewer(j, LINKS - 1);
-    let l = links[at];
-    if tables.len() < TABLES {
-        return Turned {
-            link: l,
-            fine: false,
-        };
-    }
-    if fewer(n, LINKS) <= j {
-        return Turned {
-            link: l,
-            fine: true,
-        };
-    }
-    let mut start: usize = 0;
-    let mut i: usize = 0;
-    while i < at {
-        let earlier = links[i];
-        start += dofs(earlier.joint.locked);
-        i += 1;
-    }
-    let p = fewer(l.parent as usize, at);
-    let above = links[p];
-    let mut block = [0.0f32; BLOCK];
-    copy_kept(&mut block, tables, p, p < at);
-    let t = refresh_link(l, above, p < at, start, &mut block);
-    if t.fine {
-        put_block(tables, &block, at);
-        return t;
+    (TABLES <= tables.len()) & (j < LINKS) & (start <= DOFS - 3)
+}
+
+// Link j alone, from its parent's link and the block that the tables keep of that: what `refresh_marked` does of a single mark, without a work area for all
+// links. Link and tables stay as they were where a result isn't finite, or the link doesn't fit.
+pub fn refresh_one(l: Link, above: Link, start: usize, j: usize, tables: &mut [f32]) -> Turned
+    ensures { λ r. ⌜ turnedOut r (now (tables .exit)) ≡ refreshOne l above start j (now (tables .entry)) ⌝ }
+{
+    if fits_one(tables, j, start) {
+        let p = fewer(l.parent as usize, j);
+        let mut block = [0.0f32; BLOCK];
+        copy_kept(&mut block, tables, p, p < j);
+        let t = refresh_link(l, above, p < j, start, &mut block);
+        if t.fine {
+            put_block(tables, &block, j);
+            return t;
+        }
     }
     Turned {
         link: l,

@@ -2,7 +2,8 @@
 use Prim.Native.Nat.{ℕ}
 use mathlib.Core.Bool.{Bool, true, not, _&&_, _||_}
 use mathlib.Core.List.{List, [], _∷_}
-use lib.Dec.{eqb, ltb}
+use lib.Dec.{eqb, leb, ltb}
+use lib.ListN.{length}
 use lib.Ieee.{Float}
 use Rattle.refusal.specs.Refusal.{unlessOf, lowest}
 use Rattle.floats.specs.Floats.{isFinite}
@@ -11,11 +12,13 @@ use Rattle.planar.specs.Rotation.{isBeyond}
 use Rattle.planar.specs.Poses.{rotationOf, isTurn, finitePoint, finitePose}
 use Rattle.topology.specs.Parents.{parentOf, marks}
 use Rattle.arm.specs.declared.Arm.{Arm}
+use Rattle.arm.specs.declared.Edited.{Edited}
+use Rattle.arm.specs.declared.Link.{Link}
 use Rattle.arm.specs.Arm.{parentsOf, maskAt}
+use Rattle.arm.specs.Edits.{withLinks}
 use Rattle.arm.specs.HandedIn.{armRefusal}
-use Rattle.limits.specs.Limits.{linkLimit}
 use Rattle.kinematics.specs.Pass.{allTo}
-use Rattle.kinematics.specs.State.{marked, only}
+use Rattle.kinematics.specs.State.{marked}
 use Rattle.working.specs.Outcome.{Outcome, unlessRefused, tablesFit, workedMarked}
 use Rattle.settled.specs.Above.{aboveFinite}
 use Rattle.one_link_move.specs.declared.Change.{Change}
@@ -80,9 +83,17 @@ moveRefusal a t link change =
     ∷ armRefusal a
     ∷ [])
 
--- a link is marked, and no other: none is below it
-abbrev pub alone : ℕ → (ℕ → Bool) → Bool
-alone link b = ltb link linkLimit && allTo linkLimit (λ j. (b j && only link j) || (not (b j) && not (only link j)))
+-- link j is not a later one that has it for a parent
+abbrev pub noChild : List ℕ → ℕ → ℕ → Bool
+noChild ps link j = leb j link || not (eqb (parentOf ps j) link)
+
+-- no link is below it
+abbrev pub leaf : List ℕ → ℕ → Bool
+leaf ps link = allTo (length ps) (noChild ps link)
+
+-- a refusal or 0, and the arm with these links
+abbrev pub answered : ℕ → Arm → List Link → Edited
+answered k a ls = record { refusal = k; arm = withLinks a ls }
 
 -- the link and those below it, rising, over what is kept
 unfoldable pub linkMoved : Arm → List Float → ℕ → Change → Outcome

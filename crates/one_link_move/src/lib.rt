@@ -6,11 +6,10 @@ ghost use Prim.Native.Nat.{min};
 ghost use lib.ListN.{take};
 ghost use Rattle.limits.specs.Limits.{linkLimit};
 ghost use Rattle.arm.specs.HandedIn.{handedIn};
-ghost use Rattle.kinematics.specs.State.{marked};
 ghost use Rattle.topology.specs.Parents.{parentOf, marks};
-ghost use Rattle.working.specs.Outcome.{out, workedBy};
+ghost use Rattle.working.specs.Outcome.{out};
 ghost use Rattle.one_link_move.specs.Change.{coordinateSet, changed};
-ghost use Rattle.one_link_move.specs.Move.{testsOf, moveRefusal, alone, linkMoved};
+ghost use Rattle.one_link_move.specs.Move.{testsOf, moveRefusal, leaf, answered, linkMoved};
 use arm::Arm;
 use arm::Edited;
 use arm::HandedIn;
@@ -18,11 +17,13 @@ use arm::Link;
 use arm::handed_in;
 use arm::live_links;
 use arm::mask_among;
+use arm::start_among;
+use arm::with_links;
 use floats::finite;
-use kinematics::Refreshed;
 use kinematics::refresh_marked;
 use kinematics::refresh_one;
 use limits::LINKS;
+use limits::fewer;
 use masks::is_axis;
 use masks::is_free;
 use multibody_joint::Joint;
@@ -190,34 +191,28 @@ fn marks_among(parents: [u8; LINKS], count: usize, link: usize) -> [bool; LINKS]
     at_or_below(&parents[0..n], link)
 }
 
-// Is the link marked, and no other?
-fn is_alone(marks: [bool; LINKS], link: usize) -> bool
-    ensures { λ r. ⌜ r ≡ alone link (marked marks) ⌝ }
+// Is no link below it? Then no later one has it for a parent, of as many as count.
+fn is_leaf(parents: [u8; LINKS], count: usize, link: usize) -> bool
+    ensures { λ r. ⌜ r ≡ leaf (take (min count linkLimit) parents) link ⌝ }
 {
-    let mut ok = link < LINKS;
+    let n = live_links(count);
+    let mut ok = true;
     let mut i = 0;
-    while i < LINKS {
-        let own = i == link;
-        ok = ok & ((marks[i] & own) | (!marks[i] & !own));
+    while i < n {
+        ok = ok & ((i <= link) | (parents[i] as usize != link));
         i += 1;
     }
     ok
 }
 
-// The arm with the links that a pass left, or 12 and the arm as it came.
-fn worked(arm: Arm, r: Refreshed) -> Edited
-    ensures { λ e. ⌜ e ≡ workedBy arm arm r ⌝ }
+// The arm with these links, and a refusal or 0. It is put together once, at the end: so the arm is not copied whole in between.
+fn answer(arm: Arm, links: [Link; LINKS], refusal: u8) -> Edited
+    ensures { λ e. ⌜ e ≡ answered refusal arm links ⌝ }
 {
-    if r.fine {
-        let links = r.links;
-        let mut new = arm;
-        new.links = links;
-        return Edited {
-            refusal: 0,
-            arm: new,
-        };
+    Edited {
+        refusal,
+        arm: with_links(arm, links),
     }
-    Edited { refusal: 12, arm }
 }
 
 // One link's inputs are changed, and it and the links below it are worked out, rising; nothing else is touched.
@@ -226,28 +221,39 @@ pub fn move_link(arm: Arm, tables: &mut [f32], link: u32, change: Change) -> Edi
 {
     let handed = handed_in(arm);
     let refusal = move_refusal(arm, handed, tables, link, change);
+    let mut links = arm.links;
     if refusal != 0 {
-        return Edited { refusal, arm };
+        return answer(arm, links, refusal);
     }
     let at = link as usize;
     let parents = handed.parents;
-    let marks = marks_among(parents, arm.link_count, at);
-    let mut links = arm.links;
     let l = links[at];
-    links[at] = with_change(l, change);
-    if is_alone(marks, at) {
-        let t = refresh_one(links, arm.link_count, at, tables);
+    let new = with_change(l, change);
+    if is_leaf(parents, arm.link_count, at) {
+        let masks = handed.masks;
+        let p = fewer(new.parent as usize, at);
+        let above = links[p];
+        let t = refresh_one(
+            new,
+            above,
+            start_among(masks, arm.link_count, at),
+            at,
+            tables,
+        );
         if !t.fine {
-            return Edited { refusal: 12, arm };
+            return answer(arm, links, 12);
         }
         let turned = t.link;
-        let mut new = arm;
-        new.links[at] = turned;
-        return Edited {
-            refusal: 0,
-            arm: new,
-        };
+        links[at] = turned;
+        return answer(arm, links, 0);
     }
+    links[at] = new;
+    let marks = marks_among(parents, arm.link_count, at);
     let r = refresh_marked(links, arm.link_count, marks, tables);
-    worked(arm, r)
+    if r.fine {
+        let moved = r.links;
+        return answer(arm, moved, 0);
+    }
+    links[at] = l;
+    answer(arm, links, 12)
 }

@@ -8,3 +8,4 @@ pub mod Right
 pub mod Sticky
 pub mod Modified
 pub mod Parents
+pub mod One

@@ -1,11 +1,8 @@
 // The working of an arm over its lent tables: what every call that works an arm out ends in, the full working, and the empty arm.
 ghost use mathlib.Core.Path.{_≡_};
-ghost use lib.ListN.{set};
-ghost use Rattle.arm.specs.Edits.{withLinks};
-ghost use Rattle.working.specs.Outcome.{out, tablesFit, workedBy, workedAll, workedMarked};
+ghost use Rattle.working.specs.Outcome.{out, tablesFit, workedBy, workedAll};
 ghost use Rattle.working.specs.Full.{fullRefusal, fullWorking};
 ghost use Rattle.working.specs.Empty.{zeroPoint, blankLink, emptyArm, emptied};
-ghost use Rattle.kinematics.specs.State.{only};
 use arm::Arm;
 use arm::Coupling;
 use arm::Edited;
@@ -15,7 +12,6 @@ use arm::arm_refusal;
 use floats::copy;
 use kinematics::Refreshed;
 use kinematics::refresh_all;
-use kinematics::refresh_one;
 use limits::COUPLINGS;
 use limits::DOFS;
 use limits::LINKS;
@@ -51,36 +47,6 @@ pub fn work_all(old: Arm, new: Arm, tables: &mut [f32]) -> Edited
     let links = new.links;
     let r = refresh_all(links, new.link_count, tables);
     worked(old, new, r)
-}
-
-// The arm with another link at a place, if there is such a place.
-fn with_link(arm: Arm, at: usize, link: Link) -> Arm
-    ensures { λ r. ⌜ r ≡ withLinks arm (set (arm .links) at link) ⌝ }
-{
-    let mut new = arm;
-    if at < LINKS {
-        new.links[at] = link;
-    }
-    new
-}
-
-// One link of the new arm is worked out from what is kept of its parent; 12 leaves the old arm and the tables.
-pub fn work_one(old: Arm, new: Arm, link: usize, tables: &mut [f32]) -> Edited
-    ensures { λ e. ⌜ out e (now (tables .exit)) ≡ workedMarked old new (only link) (now (tables .entry)) ⌝ }
-{
-    let links = new.links;
-    let t = refresh_one(links, new.link_count, link, tables);
-    if t.fine {
-        let turned = t.link;
-        return Edited {
-            refusal: 0,
-            arm: with_link(new, link, turned),
-        };
-    }
-    Edited {
-        refusal: 12,
-        arm: old,
-    }
 }
 
 // Is the lent memory long enough for the tables?

@@ -1,8 +1,11 @@
 -- `add_refusal`: the same list of tests. Assumes nothing.
-use mathlib.Core.Path.{ap₂, _∙_}
-use mathlib.Core.Bool.{_&&_}
-use Rattle.settled.proofs.Lowest.{lowered, tested}
 use Rattle.addition.specs.Addition.{addRefusal}
+use mathlib.Core.Bool.{_&&_}
+use mathlib.Core.Path.{ap₂, _∙_, ap}
+use Rattle.arm.specs.HandedIn.{isNew}
+use Rattle.arm.proofs.Shape.{links-length}
+use Rattle.arm.proofs.Handed.{found-refusal, found-tags}
+use Rattle.settled.proofs.Lowest.{lowered, tested}
 use borrow.Author.Needs.{needs}
 use Rattle.addition.proofs.add_refusal.Statement.{statement}
 use Rattle.addition.proofs.add_refusal.Tie as tie
@@ -52,9 +55,6 @@ turns-fit-requires c κs = search needs
 unless-requires-7 : tie.Need-unless-requires-7
 unless-requires-7 c κs = search needs
 
-arm-refusal-requires : tie.Need-arm-refusal-requires
-arm-refusal-requires c κs = search needs
-
 lower-requires : tie.Need-lower-requires
 lower-requires c κs = search needs
 
@@ -79,13 +79,16 @@ lower-requires-7 c κs = search needs
 returns : tie.Need-returns
 unfolding addRefusal
 returns c =
-    lowered (c .lower7 .ensures) (c .before .before .before .before .before .before .before .before .before .before .before .before .before .before .before .before .before .before .before .before .unless .ensures ∙ tested 1 (c .before .before .before .before .before .before .before .before .before .before .before .before .before .before .before .before .before .before .before .before .before .tables-fit .ensures))
-    (lowered (c .before .lower6 .ensures) (c .before .before .before .before .before .before .before .before .before .before .before .before .before .before .before .before .before .before .before .unless2 .ensures)
-    (lowered (c .before .before .lower5 .ensures) (c .before .before .before .before .before .before .before .before .before .before .before .before .before .before .before .before .before .unless3 .ensures ∙ tested 3 (c .before .before .before .before .before .before .before .before .before .before .before .before .before .before .before .before .before .before .is-new-tag .ensures))
-    (lowered (c .before .before .before .lower4 .ensures) (c .before .before .before .before .before .before .before .before .before .before .before .before .before .before .unless4 .ensures ∙ tested 4 (c .before .before .before .before .before .before .before .before .before .before .before .before .before .before .before .parent-fits .ensures))
-    (lowered (c .before .before .before .before .lower3 .ensures) (c .before .before .before .before .before .before .before .before .before .before .before .before .unless5 .ensures ∙ tested 5 (c .before .before .before .before .before .before .before .before .before .before .before .before .before .masks-fit .ensures))
-    (lowered (c .before .before .before .before .before .lower2 .ensures) (c .before .before .before .before .before .before .before .before .before .before .unless6 .ensures ∙ tested 7 (ap₂ _&&_ (c .before .before .before .before .before .before .before .before .before .before .before .is-finite-new .ensures) (c .before .before .before .before .before .before .before .before .before .before .before .before .before .before .before .before .before .before .before .before .before .before .is-finite-above .ensures)))
-    (lowered (c .before .before .before .before .before .before .lower .ensures) (c .before .before .before .before .before .before .before .before .unless7 .ensures ∙ tested 8 (c .before .before .before .before .before .before .before .before .before .turns-fit .ensures)) (c .before .before .before .before .before .before .before .arm-refusal .ensures)))))))
+    let a = c .before .before .before .before .before .before .before .before .before .before .before .before .before .before .before .before .before .before .before .before .before .before .before .before .args .arm in
+    let w = links-length a (c .before .before .before .before .before .before .before .before .before .before .before .before .before .before .before .before .before .before .before .before .before .before .before .before .good .0) in
+    let tag = c .before .before .before .before .before .before .before .before .before .before .before .before .before .before .before .before .before .is-new-tag .ensures ∙ ap (isNew (c .before .before .before .before .before .before .before .before .before .before .before .before .before .before .before .before .before .before .before .before .before .before .before .before .args .new .tag)) (found-tags a w (c .before .before .before .before .before .before .before .before .before .before .before .before .before .before .before .before .before .before .before .before .before .before .before .before .args .handed) (c .before .before .before .before .before .before .before .before .before .before .before .before .before .before .before .before .before .before .before .before .before .before .before .before .pre)) in
+    lowered (c .lower7 .ensures) (c .before .before .before .before .before .before .before .before .before .before .before .before .before .before .before .before .before .before .before .unless .ensures ∙ tested 1 (c .before .before .before .before .before .before .before .before .before .before .before .before .before .before .before .before .before .before .before .before .tables-fit .ensures))
+    (lowered (c .before .lower6 .ensures) (c .before .before .before .before .before .before .before .before .before .before .before .before .before .before .before .before .before .before .unless2 .ensures)
+    (lowered (c .before .before .lower5 .ensures) (c .before .before .before .before .before .before .before .before .before .before .before .before .before .before .before .before .unless3 .ensures ∙ tested 3 tag)
+    (lowered (c .before .before .before .lower4 .ensures) (c .before .before .before .before .before .before .before .before .before .before .before .before .before .unless4 .ensures ∙ tested 4 (c .before .before .before .before .before .before .before .before .before .before .before .before .before .before .parent-fits .ensures))
+    (lowered (c .before .before .before .before .lower3 .ensures) (c .before .before .before .before .before .before .before .before .before .before .before .unless5 .ensures ∙ tested 5 (c .before .before .before .before .before .before .before .before .before .before .before .before .masks-fit .ensures))
+    (lowered (c .before .before .before .before .before .lower2 .ensures) (c .before .before .before .before .before .before .before .before .before .unless6 .ensures ∙ tested 7 (ap₂ _&&_ (c .before .before .before .before .before .before .before .before .before .before .is-finite-new .ensures) (c .before .before .before .before .before .before .before .before .before .before .before .before .before .before .before .before .before .before .before .before .before .is-finite-above .ensures)))
+    (lowered (c .before .before .before .before .before .before .lower .ensures) (c .before .before .before .before .before .before .before .unless7 .ensures ∙ tested 8 (c .before .before .before .before .before .before .before .before .turns-fit .ensures)) (found-refusal a w (c .before .before .before .before .before .before .before .before .before .before .before .before .before .before .before .before .before .before .before .before .before .before .before .before .args .handed) (c .before .before .before .before .before .before .before .before .before .before .before .before .before .before .before .before .before .before .before .before .before .before .before .before .pre))))))))
 
 pub add-refusal-spec : {M : Type 1} → statement M
 add-refusal-spec =
@@ -106,7 +109,6 @@ add-refusal-spec =
     unless-requires-6
     turns-fit-requires
     unless-requires-7
-    arm-refusal-requires
     lower-requires
     lower-requires-2
     lower-requires-3

@@ -1,44 +1,38 @@
 -- `with_new_entries`: the first i rows have their zeros; then the damping row has its own. Assumes nothing.
-use mathlib.Core.Path.{sym, _∙_}
-use lib.ListN.{length-map, length-set}
-use Rattle.masks.proofs.Laws.{dofs-le}
-use Rattle.arm.proofs.Shape.{rows-length}
-use Rattle.arm.proofs.Lists.{filled-more, map-at}
 use Rattle.addition.proofs.Entries.{rows-with}
+use Rattle.addition.specs.NewLink.{entriesSet, zeros}
 use Prim.Native.Nat.{_-_, _≤_}
-use mathlib.Core.Path.{_≡_, refl}
-use mathlib.Core.List.{[], map}
-use Rattle.arm.specs.declared.Row.{Row}
+use mathlib.Core.Path.{_∙_, _≡_, refl, sym}
 use native.Mathlib.Omega.{arith}
-use lib.ListN.{length, take}
-use Rattle.addition.specs.NewLink.{zeros, entriesSet}
+use lib.ListN.{length-map, length-set, length, take}
+use Rattle.masks.proofs.Laws.{dofs-le}
+use Rattle.arm.specs.declared.Row.{Row}
+use Rattle.arm.proofs.Lists.{filled-more, map-at}
+use mathlib.Core.List.{map, []}
 use borrow.Author.Needs.{needs}
 use Rattle.addition.proofs.with_new_entries.Statement.{statement}
 use Rattle.addition.proofs.with_new_entries.Tie as tie
 
 abbrev Inv-loop : tie.InvT-loop
-Inv-loop mask arm start n none rows₀ i₀ rows i = (i ≤ 5) × (length rows ≡ 5) × (take i rows ≡ take i (map (entriesSet start n none) (arm .rows)))
+Inv-loop start mask given n none rows₀ i₀ rows i = (i ≤ 5) × (length rows ≡ 5) × (take i rows ≡ take i (map (entriesSet start n none) given))
 
 abbrev μ-loop : tie.MeasureT-loop
-μ-loop mask arm start n none rows₀ i₀ rows i = 5 - i
-
-dof-count-requires : tie.Need-dof-count-requires Inv-loop μ-loop
-dof-count-requires c κs = search needs
+μ-loop start mask given n none rows₀ i₀ rows i = 5 - i
 
 dofs-requires : tie.Need-dofs-requires Inv-loop μ-loop
 dofs-requires c κs = search needs
 
 loop-holds : tie.Need-loop-holds Inv-loop μ-loop
-loop-holds c = (omega arith, rows-length (c .before .before .before .args .t1) (c .before .before .before .good .0), refl)
+loop-holds c = (omega arith, c .before .good .0 .1 .0 .1, refl)
 
 mul-row : tie.Need-mul-row Inv-loop μ-loop
 mul-row c = search needs
 
-element-copy-out-row : tie.Need-element-copy-out-row Inv-loop μ-loop
-element-copy-out-row c = search needs
+array-copy-out-row : tie.Need-array-copy-out-row Inv-loop μ-loop
+array-copy-out-row c = search needs
 
 with-entries-requires : tie.Need-with-entries-requires Inv-loop μ-loop
-with-entries-requires c κs = (omega (arith, dofs-le (c .before .before .before .before .before .before .args .mask), c .before .before .before .before .dofs .ensures), omega (arith, c .before .before .before .before .before .dof-count .ensures, c .before .before .before .before .before .before .pre .1))
+with-entries-requires c κs = (omega (arith, dofs-le (c .before .before .before .before .args .mask), c .before .before .before .dofs .ensures), c .before .before .before .before .pre .1)
 
 mul-rows : tie.Need-mul-rows Inv-loop μ-loop
 mul-rows c = search needs
@@ -54,13 +48,13 @@ loop-less c = search needs
 
 loop-again : tie.Need-loop-again Inv-loop μ-loop
 loop-again c =
-    let a = c .before .before .before .before .before .before .before .args .t1 in
+    let given = c .before .before .before .before .before .args .t1 in
     let k = c .before .before .before .loop in
-    let f = entriesSet (c .before .before .before .before .before .before .dof-count .result) (c .before .before .before .before .before .dofs .result) zeros in
+    let f = entriesSet (c .before .before .before .before .before .args .start) (c .before .before .before .before .dofs .result) zeros in
     let d : Row = record { entries = [] } in
-    let w : length (a .rows) ≡ 5 = rows-length a (c .before .before .before .before .before .before .before .good .0) in
-    let m : length (map f (a .rows)) ≡ length (a .rows) = length-map (a .rows) f in
-    (omega arith, simp length-set (k .inv .1), filled-more (map f (a .rows)) (k .rows) (k .i) d _ (omega arith) (omega arith) (k .inv .2) (c .with-entries .ensures ∙ sym (map-at f (a .rows) (k .i) _ d (omega arith))))
+    let w : length given ≡ 5 = c .before .before .before .before .before .good .0 .1 .0 .1 in
+    let m : length (map f given) ≡ length given = length-map given f in
+    (omega arith, simp length-set (k .inv .1), filled-more (map f given) (k .rows) (k .i) d _ (omega arith) (omega arith) (k .inv .2) (c .with-entries .ensures ∙ sym (map-at f given (k .i) _ d (omega arith))))
 
 row-number-requires : tie.Need-row-number-requires Inv-loop μ-loop
 row-number-requires c κs = search needs
@@ -68,14 +62,14 @@ row-number-requires c κs = search needs
 mul-row-2 : tie.Need-mul-row-2 Inv-loop μ-loop
 mul-row-2 c = search needs
 
-array-copy-out-row : tie.Need-array-copy-out-row Inv-loop μ-loop
-array-copy-out-row c = search needs
+array-copy-out-row-2 : tie.Need-array-copy-out-row-2 Inv-loop μ-loop
+array-copy-out-row-2 c = search needs
 
 damping-of-requires : tie.Need-damping-of-requires Inv-loop μ-loop
 damping-of-requires c κs = search needs
 
 with-entries-requires-2 : tie.Need-with-entries-requires-2 Inv-loop μ-loop
-with-entries-requires-2 c κs = (omega (arith, dofs-le (c .before .before .before .before .before .before .before .before .args .mask), c .before .before .before .before .before .before .dofs .ensures), omega (arith, c .before .before .before .before .before .before .before .dof-count .ensures, c .before .before .before .before .before .before .before .before .pre .1))
+with-entries-requires-2 c κs = (omega (arith, dofs-le (c .before .before .before .before .before .before .args .mask), c .before .before .before .before .before .dofs .ensures), c .before .before .before .before .before .before .pre .1)
 
 mul-rows-2 : tie.Need-mul-rows-2 Inv-loop μ-loop
 mul-rows-2 c = search needs
@@ -85,9 +79,8 @@ array-set-from-rows-2 c = search needs
 
 returns : tie.Need-returns Inv-loop μ-loop
 returns c =
-    let a = c .before .before .before .before .before .before .before .before .before .args .t1 in
     let k = c .before .before .before .before .before .loop in
-    rows-with a (c .before .before .before .before .before .before .before .before .before .args .mask) _ _ _ (k .i) (k .rows) _ _ _ (rows-length a (c .before .before .before .before .before .before .before .before .before .good .0)) (k .inv .1) (c .before .before .before .before .before .before .before .before .dof-count .ensures) (c .before .before .before .before .before .before .before .dofs .ensures) (c .before .before .before .row-number .ensures) (c .before .before .before .before .loop-test .left) (k .inv .2) (c .before .damping-of .ensures) (c .with-entries2 .ensures)
+    rows-with (c .before .before .before .before .before .before .before .args .t1) (c .before .before .before .before .before .before .before .args .mask) _ _ _ (k .i) (k .rows) _ _ _ (c .before .before .before .before .before .before .before .good .0 .1 .0 .1) (k .inv .1) (c .before .before .before .before .before .before .dofs .ensures) (c .before .before .before .row-number .ensures) (c .before .before .before .before .loop-test .left) (k .inv .2) (c .before .damping-of .ensures) (c .with-entries2 .ensures)
 
 pub with-new-entries-spec : {M : Type 1} → statement M
 with-new-entries-spec =
@@ -95,11 +88,10 @@ with-new-entries-spec =
     (tie.spec
     Inv-loop
     μ-loop
-    dof-count-requires
     dofs-requires
     loop-holds
     mul-row
-    element-copy-out-row
+    array-copy-out-row
     with-entries-requires
     mul-rows
     array-set-from-rows
@@ -108,7 +100,7 @@ with-new-entries-spec =
     loop-again
     row-number-requires
     mul-row-2
-    array-copy-out-row
+    array-copy-out-row-2
     damping-of-requires
     with-entries-requires-2
     mul-rows-2

@@ -77,9 +77,9 @@ module _ (a : Arm) (l : LinkTests) (c : CouplingTests) (unique earlier root rows
   unfolding armRefusal armEntries linkTestsOf couplingTestsOf
   same p₂ p₃ p₄ p₅ p₇ p₉ q₇ q₅ q₄ q₃ q₂ = rw (q₂, q₃, q₄, q₅, q₇, p₂, p₃, p₄, p₅, p₇, p₉, el, ec, e₃, e₄, e₅, e₇)
 
-  found : (k : ℕ) → k ≡ armRefusal a → _≡_ {A = HandedIn} (record { refusal = k; parents = l .parents; masks = l .locked }) (handedIn a)
+  found : (k : ℕ) → k ≡ armRefusal a → _≡_ {A = HandedIn} (record { refusal = k; tags = l .tags; parents = l .parents; masks = l .locked }) (handedIn a)
   unfolding handedIn linkTestsOf
-  found k e = cc (e, ap (λ (t : LinkTests). t .parents) el, ap (λ (t : LinkTests). t .locked) el)
+  found k e = cc (e, ap (λ (t : LinkTests). t .tags) el, ap (λ (t : LinkTests). t .parents) el, ap (λ (t : LinkTests). t .locked) el)
 
 live-links-requires : tie.Need-live-links-requires
 live-links-requires c κs = search needs

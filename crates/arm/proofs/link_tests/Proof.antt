@@ -10,10 +10,11 @@ use Rattle.arm.specs.declared.Link.{Link}
 use Rattle.arm.specs.declared.LinkTests.{LinkTests}
 use Rattle.arm.proofs.Lists.{padded-more, length-padded, map-at}
 use Rattle.arm.proofs.Live.{tags-front, parents-front, masks-front}
-use Rattle.arm.proofs.Every.{Tested, front-more, front-all}
+use Rattle.arm.proofs.Every.{Tested, tested-failed, front-more, front-next, front-all}
 use Rattle.arm.proofs.Shape.{links-length}
 use mathlib.Core.List.{List, map}
 use mathlib.Core.Bool.{Bool}
+use mathlib.Core.Logic.{⊎-elim}
 use mathlib.Core.Path.{_≡_, refl, _∙_, ap}
 use native.Mathlib.Omega.{arith}
 use borrow.Author.Needs.{needs}
@@ -113,7 +114,10 @@ loop-again c =
       filled a w parentOf (k .parents) (k .i) _ (omega arith) (k .inv .2),
       filled a w lockedOf (k .locked) (k .i) _ (omega arith) (k .inv .3),
       front-more linkMasksFit (a .links) _ fits (k .i) (k .masks) _ _ (omega arith) (c .before .before .masks-fit .ensures) (k .inv .4),
-      front-more linkFinite (a .links) _ fits (k .i) (k .floats) _ _ (omega arith) (c .before .is-finite-link .ensures) (k .inv .5),
+      ⊎-elim
+          (λ q. front-next linkFinite (a .links) _ fits (k .i) (k .floats) _ _ (omega arith) (q .0 .taken) (q .2 ∙ q .1 .ensures) (k .inv .5))
+          (λ q. tested-failed linkFinite _ (k .i) (k .i + 1) (k .floats) _ (q .0 .left) (q .1) (k .inv .5))
+          (c .before .if1 .came),
       front-more linkAngleFits (a .links) _ fits (k .i) (k .angles) _ _ (omega arith) (c .angle-fits .ensures) (k .inv .6),
     )
 

@@ -1,0 +1,89 @@
+-- The addition's ends, as the code has their parts: all finite, or 12. Assumes nothing.
+use Prim.Native.Nat.{ℕ, min, _+_, _≤_, _<_}
+use mathlib.Core.Path.{_≡_, sym, ap, _∙_}
+use mathlib.Core.Bool.{true, false}
+use mathlib.Core.List.{List}
+use native.Mathlib.Omega.{arith}
+use lib.ListN.{length, take, getD, set}
+use lib.Seq.{set-set}
+use lib.Ieee.{Float}
+use Rattle.limits.specs.Limits.{linkLimit, dofLimit}
+use Rattle.masks.specs.Starts.{startOf}
+use Rattle.arm.specs.declared.Arm.{Arm}
+use Rattle.arm.specs.declared.HandedIn.{HandedIn}
+use Rattle.arm.specs.declared.Link.{Link}
+use Rattle.arm.specs.declared.Row.{Row}
+use Rattle.arm.specs.Arm.{liveLinks, masksOf, startAt, dofCountOf}
+use Rattle.arm.specs.HandedIn.{handedIn}
+use Rattle.arm.proofs.Handed.{found-masks}
+use Rattle.arm.proofs.Live.{start-whole}
+use Rattle.kinematics.specs.declared.Turned.{Turned}
+use Rattle.kinematics.specs.State.{only}
+use Rattle.kinematics.specs.Answers.{refreshMarked, turnedOut, refreshOne}
+use Rattle.kinematics.proofs.One.{asMarked}
+use Rattle.working.specs.Outcome.{out}
+use Rattle.working.proofs.Passed.{one-on, one-off}
+use Rattle.working.proofs.Refused.{accepted}
+use Rattle.settled.proofs.One.{one-placed}
+use Rattle.addition.specs.declared.NewLink.{NewLink}
+use Rattle.addition.specs.NewLink.{linkOf, rowsFrom, rowsWith, addedInputs}
+use Rattle.addition.specs.Addition.{addRefusal, linkAdded}
+use Rattle.addition.proofs.Entries.{room}
+use Rattle.addition.proofs.Tests.{passed}
+
+module _ (a : Arm) (whole : length (a .links) ≡ linkLimit) (t : List Float) (new : NewLink) (k : ℕ) (ek : k ≡ addRefusal a t new) (none : k ≡ 0)
+    (h : HandedIn) (eh : h ≡ handedIn a) (start : ℕ) (es : start ≡ startOf (take (liveLinks a) (h .masks)) (a .«link_count»)) where
+  abbrev n : ℕ
+  n = a .«link_count»
+
+  pub few : n < linkLimit
+  few = passed a t new (sym ek ∙ none) .room
+
+  masks : start ≡ startOf (masksOf a) n
+  masks = es ∙ ap (λ (ms : List ℕ). startOf ms n) (found-masks a whole h eh)
+
+  -- its entries stand behind the arm's own
+  behind : start ≡ dofCountOf a
+  unfolding startAt
+  behind = masks ∙ start-whole a whole n (omega (arith, few))
+
+  pub start-fits : start + 3 ≤ dofLimit
+  start-fits = omega (arith, behind, room a whole few)
+
+  module _ (l above d : Link) (el : l ≡ linkOf new) (p : ℕ) (ep : p ≡ min (l .parent) n) (ea : above ≡ getD (a .links) p d) (r : Turned) (m : List Float)
+      (turned : turnedOut r m ≡ refreshOne l above start n t) where
+    abbrev ls : List Link
+    ls = set (a .links) n (linkOf new)
+
+    pass : refreshMarked ls (n + 1) (only n) t ≡ asMarked ls n (turnedOut r m)
+    pass =
+        one-placed a whole n (omega (arith, few)) few (linkOf new) above p d (ep ∙ ap (λ (x : Link). min (x .parent) n) el) ea start masks (n + 1) (omega (arith, few)) t m r
+        (turned ∙ ap (λ (x : Link). refreshOne x above start n t) el)
+
+    pub placed-off : r .fine ≡ false → out (record { refusal = 12; arm = a }) m ≡ linkAdded a t new
+    unfolding linkAdded addedInputs
+    placed-off f = one-off a (addedInputs a new) n t m r pass f ∙ accepted ek a t none _
+
+    pub placed-on : r .fine ≡ true → (rows : List Row) → rows ≡ rowsFrom start (new .locked) (a .rows) → (count : ℕ) → count ≡ n + 1
+        → out (record {
+          refusal = 0;
+          arm = record {
+            «link_count» = count;
+            «coupling_count» = a .«coupling_count»;
+            links = set (a .links) n (r .link);
+            couplings = a .couplings;
+            rows = rows;
+          };
+        }) m
+        ≡ linkAdded a t new
+    unfolding linkAdded addedInputs rowsWith
+    placed-on f rows er count ec =
+        one-on a (addedInputs a new) n t m r pass f _
+        (λ i. record {
+          «link_count» = ec i;
+          «coupling_count» = a .«coupling_count»;
+          links = sym (set-set (a .links) n (linkOf new) (r .link)) i;
+          couplings = a .couplings;
+          rows = (er ∙ ap (λ (s : ℕ). rowsFrom s (new .locked) (a .rows)) behind) i;
+        })
+        ∙ accepted ek a t none _
