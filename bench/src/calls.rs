@@ -25,7 +25,7 @@ pub const VALUE: f32 = 0.5;
 pub const DT: f32 = 0.0;
 
 impl Call {
-    fn ours(self, arm: &Arm, tables: &mut [f32]) -> Edited {
+    pub fn ours(self, arm: &Arm, tables: &mut [f32]) -> Edited {
         match self {
             Call::WriteVelocity { link } => ffi::write_velocity(arm, link, axis::ANGLE, VALUE),
             Call::AddLink { parent } => {
@@ -43,7 +43,7 @@ impl Call {
         }
     }
 
-    fn rust(self, arm: &mut plain::Arm, tables: &mut [f32]) -> Answer {
+    pub fn rust(self, arm: &mut plain::Arm, tables: &mut [f32]) -> Answer {
         match self {
             Call::WriteVelocity { link } => arm.write_row(RowName::Velocities, link, axis::ANGLE, VALUE),
             Call::AddLink { parent } => {
@@ -68,7 +68,7 @@ impl Call {
 
 /// Plain Rust with an arm that comes and goes by value.
 #[inline(never)]
-fn by_value(mut arm: plain::Arm, tables: &mut [f32], call: Call) -> (Answer, plain::Arm) {
+pub fn by_value(mut arm: plain::Arm, tables: &mut [f32], call: Call) -> (Answer, plain::Arm) {
     let answer = call.rust(&mut arm, tables);
     (answer, arm)
 }

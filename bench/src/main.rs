@@ -5,6 +5,7 @@ mod arms;
 mod boundary;
 mod calls;
 mod constraints;
+mod count;
 mod leaves;
 mod solves;
 mod table;
@@ -12,6 +13,12 @@ mod text;
 mod times;
 
 fn main() {
+    let words: Vec<String> = std::env::args().skip(1).collect();
+    if let [mode, words @ ..] = &words[..]
+        && mode == "count"
+    {
+        return count::run(words);
+    }
     let mut table = table::Table::new();
     leaves::time(&mut table);
     calls::time(&mut table);
