@@ -1,6 +1,6 @@
 //! The arms that are timed, the same on each side.
 
-use giellavor::abi::{Arm, Point, Pose};
+use giellavor::abi::{Arm, Edited, Point, Pose};
 use giellavor::{COUPLINGS, NewCoupling, NewLink, Refusal, RowName, Spring};
 
 /// An arm as it crosses the boundary, and its tables.
@@ -50,6 +50,11 @@ pub fn chain(links: usize) -> Result<Ours, Refusal> {
         })?;
     }
     Ok((*arm.state(), arm.tables().to_vec()))
+}
+
+/// The arm where a call takes it from, and puts its answer.
+pub fn handed_in((arm, _): &Ours) -> Edited {
+    Edited { arm: *arm, refusal: 0 }
 }
 
 pub fn plain_of((arm, tables): &Ours) -> Plain {

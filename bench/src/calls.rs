@@ -1,10 +1,10 @@
 //! The calls that change an arm.
 
-use crate::arms::{CENTRE, FRAME1, FRAME2, chain, plain_of, plain_point, plain_pose, told};
+use crate::arms::{CENTRE, FRAME1, FRAME2, chain, handed_in, plain_of, plain_point, plain_pose, told};
 use crate::table::{Table, Times};
 use crate::text::{self, Asked};
 use crate::times::least;
-use giellavor::abi::{Arm, Edited};
+use giellavor::abi::Edited;
 use giellavor::{LINKS, NewLink, axis, ffi};
 use plain::{Answer, RowName, tree};
 use std::hint::black_box;
@@ -25,9 +25,9 @@ pub const VALUE: f32 = 0.5;
 pub const DT: f32 = 0.0;
 
 impl Call {
-    pub fn ours(self, arm: &Arm, tables: &mut [f32]) -> Edited {
+    pub fn ours(self, edited: &mut Edited, tables: &mut [f32]) {
         match self {
-            Call::WriteVelocity { link } => ffi::write_velocity(arm, link, axis::ANGLE, VALUE),
+            Call::WriteVelocity { link } => ffi::write_velocity(edited, link, axis::ANGLE, VALUE),
             Call::AddLink { parent } => {
                 let new = NewLink {
                     frame1: FRAME1,
@@ -35,11 +35,11 @@ impl Call {
                     centre: CENTRE,
                     ..NewLink::free(TAG, parent)
                 };
-                ffi::add_link(arm, tables, new)
+                ffi::add_link(edited, tables, new)
             }
-            Call::Move { link } => ffi::move_coordinate(arm, tables, link, axis::X, VALUE),
-            Call::FullWorking => ffi::full_working(arm, tables),
-            Call::Step => ffi::step(arm, tables, DT),
+            Call::Move { link } => ffi::move_coordinate(edited, tables, link, axis::X, VALUE),
+            Call::FullWorking => ffi::full_working(edited, tables),
+            Call::Step => ffi::step(edited, tables, DT),
         }
     }
 
@@ -66,31 +66,41 @@ impl Call {
     }
 }
 
-/// Plain Rust with an arm that comes and goes by value.
+/// Plain Rust with an arm that goes in by value and comes out in its place.
 #[inline(never)]
-pub fn by_value(mut arm: plain::Arm, tables: &mut [f32], call: Call) -> (Answer, plain::Arm) {
-    let answer = call.rust(&mut arm, tables);
-    (answer, arm)
+pub fn by_value(arm: &mut plain::Arm, tables: &mut [f32], call: Call) -> Answer {
+    let mut own = arm.clone();
+    let answer = call.rust(&mut own, tables);
+    *arm = own;
+    answer
 }
 
-/// A call on a chain of so many links. Each time it is handed the chain as it was made; the answer's arm is put in its place.
+/// A call on a chain of so many links. Each time it is handed the chain as it was made; an addition's link is taken back before it.
 fn timed(call: Call, links: usize) -> Times {
     let made = chain(links).expect("a chain");
-    let (arm, mut tables) = made.clone();
-    assert_eq!(call.ours(&arm, &mut tables.clone()).refusal, 0, "{call:?}");
-    let mut after = arm;
-    let (given, mut other_tables) = plain_of(&made);
-    let mut other_after = given.clone();
+    let (mut edited, mut tables) = (handed_in(&made), made.1.clone());
+    let mut copied = plain_of(&made);
     let mut in_place = plain_of(&made);
     let [ours, by_value, rust] = least([
-        &mut || after = black_box(call).ours(black_box(&arm), black_box(&mut tables)).arm,
-        &mut || other_after = by_value(black_box(&given).clone(), black_box(&mut other_tables), black_box(call)).1,
+        &mut || {
+            edited.arm.link_count = links;
+            black_box(call).ours(black_box(&mut edited), black_box(&mut tables));
+        },
+        &mut || {
+            copied.0.link_count = links;
+            let _ = black_box(by_value(
+                black_box(&mut copied.0),
+                black_box(&mut copied.1),
+                black_box(call),
+            ));
+        },
         &mut || {
             in_place.0.link_count = links;
             let _ = black_box(black_box(call).rust(black_box(&mut in_place.0), black_box(&mut in_place.1)));
         },
     ]);
-    let results = [plain_of(&(after, tables)), (other_after, other_tables), in_place];
+    assert_eq!(edited.refusal, 0, "{call:?}");
+    let results = [plain_of(&(edited.arm, tables)), copied, in_place];
     assert!(
         results.iter().all(|result| told(result) == told(&results[0])),
         "{call:?} on {links} links"

@@ -1,6 +1,6 @@
 //! A call so many times, on one side alone: what `bench/count` counts the instructions of.
 
-use crate::arms::{chain, plain_of};
+use crate::arms::{chain, handed_in, plain_of};
 use crate::calls::{Call, by_value};
 use giellavor::LINKS;
 use std::hint::black_box;
@@ -27,19 +27,19 @@ pub fn run(words: &[String]) {
     let (_, call, links) = CALLS.iter().find(|(known, ..)| known == name).expect("a call's name");
     let times = times.parse().expect("a number");
     let made = chain(*links).expect("a chain");
-    let (arm, mut tables) = made.clone();
-    let mut after = arm;
-    let (mut given, mut other_tables) = plain_of(&made);
-    let mut other_after = given.clone();
+    let (mut edited, mut tables) = (handed_in(&made), made.1.clone());
+    let (mut arm, mut other_tables) = plain_of(&made);
     for _ in 0..times {
+        edited.arm.link_count = *links;
+        arm.link_count = *links;
         match side.as_str() {
-            "ours" => after = black_box(call).ours(black_box(&arm), black_box(&mut tables)).arm,
-            "by-value" => other_after = by_value(black_box(&given).clone(), black_box(&mut other_tables), *call).1,
+            "ours" => black_box(call).ours(black_box(&mut edited), black_box(&mut tables)),
+            "by-value" => {
+                let _ = black_box(by_value(black_box(&mut arm), black_box(&mut other_tables), *call));
+            }
             _ => {
-                given.link_count = *links;
-                let _ = black_box(black_box(call).rust(black_box(&mut given), black_box(&mut other_tables)));
+                let _ = black_box(black_box(call).rust(black_box(&mut arm), black_box(&mut other_tables)));
             }
         }
     }
-    black_box((after, other_after));
 }

@@ -15,7 +15,8 @@ use crate::split::{Place, Split, places};
 /// bit for bit.
 #[derive(Clone)]
 pub struct Arm {
-    state: Box<abi::Arm>,
+    /// What the last call that edited it answered.
+    edited: Box<Edited>,
     tables: Box<[f32]>,
 }
 
@@ -32,10 +33,9 @@ fn new_tables() -> Box<[f32]> {
 /// A new arm with tables of its own.
 fn owned(call: impl FnOnce(&mut [f32]) -> Edited) -> Result<Arm, Refusal> {
     let mut tables = new_tables();
-    let Edited { refusal, arm } = call(&mut tables);
-    refused(refusal)?;
-    let state = Box::new(arm);
-    Ok(Arm { state, tables })
+    let edited = Box::new(call(&mut tables));
+    refused(edited.refusal)?;
+    Ok(Arm { edited, tables })
 }
 
 // ---- Making an arm
@@ -45,16 +45,14 @@ impl Arm {
     pub fn new() -> Arm {
         let mut tables = new_tables();
         // Only tables that are too short are refused.
-        let state = Box::new(ffi::empty(&mut tables).arm);
-        Arm { state, tables }
+        let edited = Box::new(ffi::empty(&mut tables));
+        Arm { edited, tables }
     }
 
     /// The call's arm in place of the old one.
-    fn edit(&mut self, call: impl FnOnce(&abi::Arm, &mut [f32]) -> Edited) -> Result<(), Refusal> {
-        let Edited { refusal, arm } = call(&self.state, &mut self.tables);
-        refused(refusal)?;
-        *self.state = arm;
-        Ok(())
+    fn edit(&mut self, call: impl FnOnce(&mut Edited, &mut [f32])) -> Result<(), Refusal> {
+        call(&mut self.edited, &mut self.tables);
+        refused(self.edited.refusal)
     }
 
     /// Adds a link behind the last, and returns its number. A first link is the root: its parent is 0, its locked mask 7 or 0.
@@ -133,8 +131,8 @@ impl Arm {
     pub fn split_map(&self, split: Split) -> Result<(usize, Vec<Option<Place>>), Refusal> {
         let mut map = [0; 2 * LINKS];
         let answer = match split {
-            Split::Delete(link) => ffi::arm_split_delete(&self.state, link, &mut map),
-            Split::Cut(link) => ffi::arm_split_cut(&self.state, link, &mut map),
+            Split::Delete(link) => ffi::arm_split_delete(self.state(), link, &mut map),
+            Split::Cut(link) => ffi::arm_split_cut(self.state(), link, &mut map),
         };
         refused(answer.refusal)?;
         Ok((answer.count, places(&map).take(self.links().len()).collect()))
@@ -143,8 +141,8 @@ impl Arm {
     /// One part of a split, as an arm of its own.
     pub fn part(&self, split: Split, number: u32) -> Result<Arm, Refusal> {
         owned(|tables| match split {
-            Split::Delete(link) => ffi::part_delete(&self.state, link, number, tables),
-            Split::Cut(link) => ffi::part_cut(&self.state, link, number, tables),
+            Split::Delete(link) => ffi::part_delete(self.state(), link, number, tables),
+            Split::Cut(link) => ffi::part_cut(self.state(), link, number, tables),
         })
     }
 
@@ -173,7 +171,7 @@ impl Arm {
     /// Every link, rising.
     pub fn links(&self) -> impl ExactSizeIterator<Item = LinkView<'_>> {
         let numbers = 0..self.link_count();
-        let kept = self.state.links.iter().zip(self.tables.chunks_exact(BLOCK));
+        let kept = self.state().links.iter().zip(self.tables.chunks_exact(BLOCK));
         numbers
             .zip(kept)
             .map(|(number, (link, block))| LinkView { number, link, block })
@@ -193,28 +191,28 @@ impl Arm {
 
 impl Arm {
     pub fn link_count(&self) -> u32 {
-        self.state.link_count.min(LINKS) as u32
+        self.state().link_count.min(LINKS) as u32
     }
 
     pub fn dof_count(&self) -> usize {
-        ffi::arm_dofs(&self.state).count.into()
+        ffi::arm_dofs(self.state()).count.into()
     }
 
     /// Where a link's degrees of freedom begin.
     pub fn link_start(&self, link: u32) -> Result<usize, Refusal> {
-        let answer = ffi::link_start(&self.state, link);
+        let answer = ffi::link_start(self.state(), link);
         refused(answer.refusal)?;
         Ok(answer.count.into())
     }
 
     pub fn couplings(&self) -> &[Coupling] {
-        let all = &self.state.couplings;
-        all.get(..self.state.coupling_count).unwrap_or(all)
+        let all = &self.state().couplings;
+        all.get(..self.state().coupling_count).unwrap_or(all)
     }
 
     /// A row, an entry for each degree of freedom.
     pub fn row(&self, row: RowName) -> &[f32] {
-        let [velocities, damping, armature, frictions, accelerations] = &self.state.rows;
+        let [velocities, damping, armature, frictions, accelerations] = &self.state().rows;
         let row = match row {
             RowName::Velocities => velocities,
             RowName::Damping => damping,
@@ -236,11 +234,11 @@ impl Arm {
         let (row, part) = match role {
             Role::Velocities => (
                 velocities,
-                ffi::view_velocities(&self.state, link, velocities, accelerations),
+                ffi::view_velocities(self.state(), link, velocities, accelerations),
             ),
             Role::Accelerations => (
                 accelerations,
-                ffi::view_accelerations(&self.state, link, velocities, accelerations),
+                ffi::view_accelerations(self.state(), link, velocities, accelerations),
             ),
         };
         refused(part.refusal)?;
@@ -251,28 +249,28 @@ impl Arm {
     /// The numbers of the links from the root to a link.
     pub fn kinematic_branch(&self, link: u32) -> Result<Vec<u32>, Refusal> {
         let mut branch = [0; LINKS];
-        let answer = ffi::kinematic_branch(&self.state, link, &mut branch);
+        let answer = ffi::kinematic_branch(self.state(), link, &mut branch);
         refused(answer.refusal)?;
         Ok(branch.into_iter().take(answer.count).map(u32::from).collect())
     }
 
     /// The spring of an axis, locked or not.
     pub fn spring(&self, link: u32, axis: u32) -> Result<Spring, Refusal> {
-        let answer = ffi::spring(&self.state, link, axis);
+        let answer = ffi::spring(self.state(), link, axis);
         refused(answer.refusal)?;
         Ok(answer.spring)
     }
 
     /// The accelerations of a link's joint, put on their axes; zero on a locked one.
     pub fn jacobian_mul_coordinates(&self, link: u32, accelerations: &[f32]) -> Result<[f32; 3], Refusal> {
-        let answer = ffi::jacobian_mul_coordinates(&self.state, link, accelerations);
+        let answer = ffi::jacobian_mul_coordinates(self.state(), link, accelerations);
         refused(answer.refusal)?;
         Ok(answer.axes)
     }
 
     /// The arm as it crosses the boundary.
     pub fn state(&self) -> &abi::Arm {
-        &self.state
+        &self.edited.arm
     }
 
     /// The Jacobian blocks of all links, one after the other.
@@ -287,7 +285,7 @@ impl Arm {
     /// The row of an axis' limit.
     pub fn limit_row(&self, link: u32, axis: u32, limits: Limits, lent: Lent) -> Result<ConstraintRow, Refusal> {
         let Lent { mass, j, wj } = lent;
-        ConstraintRow::told(ffi::limit_row(&self.state, link, axis, limits, mass, j, wj))
+        ConstraintRow::told(ffi::limit_row(self.state(), link, axis, limits, mass, j, wj))
     }
 
     /// The row of an axis' friction, which the arm's row of frictions holds.
@@ -300,12 +298,20 @@ impl Arm {
         lent: Lent,
     ) -> Result<ConstraintRow, Refusal> {
         let Lent { mass, j, wj } = lent;
-        ConstraintRow::told(ffi::friction_row(&self.state, link, axis, dt, cfm_coeff, mass, j, wj))
+        ConstraintRow::told(ffi::friction_row(self.state(), link, axis, dt, cfm_coeff, mass, j, wj))
     }
 
     /// What a force on a link does along each degree of freedom, its solve by the mass matrix, and their sums.
     pub fn fill_jacobians(&self, link: u32, force: Force, lent: Lent) -> Result<Sums, Refusal> {
         let Lent { mass, j, wj } = lent;
-        Sums::told(ffi::fill_jacobians(&self.state, link, force, &self.tables, mass, j, wj))
+        Sums::told(ffi::fill_jacobians(
+            self.state(),
+            link,
+            force,
+            &self.tables,
+            mass,
+            j,
+            wj,
+        ))
     }
 }

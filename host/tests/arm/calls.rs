@@ -1,7 +1,7 @@
 //! Every call on an arm with its arguments, made over memory that the test lends.
 
 use crate::memory::{Memory, bits};
-use giellavor::abi::{Arm, Force, Limits, NewCoupling, NewLink, Point, Pose, Spring};
+use giellavor::abi::{Arm, Edited, Force, Limits, NewCoupling, NewLink, Point, Pose, Spring};
 use giellavor::{LINKS, TABLES, ffi};
 
 #[derive(Clone, Copy, Debug)]
@@ -71,6 +71,24 @@ impl Came {
             rows: 0,
         }
     }
+
+    fn edited(edited: Edited, tables: usize) -> Came {
+        Came {
+            arm: Some(Box::new(edited.arm)),
+            tables,
+            ..Came::number(edited.refusal)
+        }
+    }
+}
+
+/// A call that edits an arm in its place. No call answers the number that stands there before.
+fn edited(arm: &Arm, tables: usize, call: impl FnOnce(&mut Edited)) -> Came {
+    let mut edited = Edited {
+        arm: *arm,
+        refusal: u8::MAX,
+    };
+    call(&mut edited);
+    Came::edited(edited, tables)
 }
 
 impl World {
@@ -181,13 +199,6 @@ impl Call {
         } = world;
         let (tables, bytes, mass, j, wj) = (tables.lent(), bytes.lent(), mass.lent(), j.lent(), wj.lent());
         let (velocities, accelerations) = (velocities.lent(), accelerations.lent());
-        let edited = |edited: giellavor::abi::Edited, tables: usize| Came {
-            refusal: edited.refusal,
-            arm: Some(Box::new(edited.arm)),
-            tables,
-            bytes: 0,
-            rows: 0,
-        };
         let listed = |refusal: u8, bytes: usize| Came {
             bytes,
             ..Came::number(refusal)
@@ -197,24 +208,26 @@ impl Call {
             ..Came::number(refusal)
         };
         match self {
-            Call::Empty => edited(ffi::empty(tables), TABLES),
-            Call::AddLink(link) => edited(ffi::add_link(arm, tables, link), TABLES),
-            Call::AddCoupling(coupling) => edited(ffi::add_coupling(arm, coupling), 0),
-            Call::WriteVelocity(link, axis, x) => edited(ffi::write_velocity(arm, link, axis, x), 0),
-            Call::WriteDamping(link, axis, x) => edited(ffi::write_damping(arm, link, axis, x), 0),
-            Call::WriteArmature(link, axis, x) => edited(ffi::write_armature(arm, link, axis, x), 0),
-            Call::WriteFriction(link, axis, x) => edited(ffi::write_friction(arm, link, axis, x), 0),
-            Call::WriteAcceleration(link, axis, x) => edited(ffi::write_acceleration(arm, link, axis, x), 0),
-            Call::SetSpring(link, axis, spring) => edited(ffi::set_spring(arm, link, axis, spring), 0),
-            Call::MoveCoordinate(link, axis, x) => edited(ffi::move_coordinate(arm, tables, link, axis, x), TABLES),
-            Call::MoveFrames(link, a, b) => edited(ffi::move_frames(arm, tables, link, a, b), TABLES),
-            Call::MoveCentre(link, centre) => edited(ffi::move_centre(arm, tables, link, centre), TABLES),
-            Call::FullWorking => edited(ffi::full_working(arm, tables), TABLES),
-            Call::Step(dt) => edited(ffi::step(arm, tables, dt), TABLES),
-            Call::FreeRoot(pose) => edited(ffi::free_root(arm, tables, pose), TABLES),
-            Call::FixRoot(pose) => edited(ffi::fix_root(arm, tables, pose), TABLES),
-            Call::PartDelete(link, number) => edited(ffi::part_delete(arm, link, number, tables), TABLES),
-            Call::PartCut(link, number) => edited(ffi::part_cut(arm, link, number, tables), TABLES),
+            Call::Empty => Came::edited(ffi::empty(tables), TABLES),
+            Call::AddLink(link) => edited(arm, TABLES, |e| ffi::add_link(e, tables, link)),
+            Call::AddCoupling(coupling) => edited(arm, 0, |e| ffi::add_coupling(e, coupling)),
+            Call::WriteVelocity(link, axis, x) => edited(arm, 0, |e| ffi::write_velocity(e, link, axis, x)),
+            Call::WriteDamping(link, axis, x) => edited(arm, 0, |e| ffi::write_damping(e, link, axis, x)),
+            Call::WriteArmature(link, axis, x) => edited(arm, 0, |e| ffi::write_armature(e, link, axis, x)),
+            Call::WriteFriction(link, axis, x) => edited(arm, 0, |e| ffi::write_friction(e, link, axis, x)),
+            Call::WriteAcceleration(link, axis, x) => edited(arm, 0, |e| ffi::write_acceleration(e, link, axis, x)),
+            Call::SetSpring(link, axis, spring) => edited(arm, 0, |e| ffi::set_spring(e, link, axis, spring)),
+            Call::MoveCoordinate(link, axis, x) => {
+                edited(arm, TABLES, |e| ffi::move_coordinate(e, tables, link, axis, x))
+            }
+            Call::MoveFrames(link, a, b) => edited(arm, TABLES, |e| ffi::move_frames(e, tables, link, a, b)),
+            Call::MoveCentre(link, centre) => edited(arm, TABLES, |e| ffi::move_centre(e, tables, link, centre)),
+            Call::FullWorking => edited(arm, TABLES, |e| ffi::full_working(e, tables)),
+            Call::Step(dt) => edited(arm, TABLES, |e| ffi::step(e, tables, dt)),
+            Call::FreeRoot(pose) => edited(arm, TABLES, |e| ffi::free_root(e, tables, pose)),
+            Call::FixRoot(pose) => edited(arm, TABLES, |e| ffi::fix_root(e, tables, pose)),
+            Call::PartDelete(link, number) => Came::edited(ffi::part_delete(arm, link, number, tables), TABLES),
+            Call::PartCut(link, number) => Came::edited(ffi::part_cut(arm, link, number, tables), TABLES),
             Call::LinkStart(link) => Came::number(ffi::link_start(arm, link).refusal),
             Call::ArmDofs => Came::number(ffi::arm_dofs(arm).refusal),
             Call::Spring(link, axis) => Came::number(ffi::spring(arm, link, axis).refusal),

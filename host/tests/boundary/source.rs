@@ -182,7 +182,7 @@ pub fn limits() -> BTreeMap<String, usize> {
 
 // ---- The Rust declarations
 
-/// The lists of `exported!`: the calls, and what is timed beside them. An arm that crosses by value is lent there.
+/// The lists of `exported!`: the calls, and what is timed beside them. An arm that crosses by value is lent there, or edited in its place.
 pub fn declared() -> [Functions; 2] {
     let text = code(&host().join("src/ffi.rs"));
     let lists = after(&text, "exported! {").map(|(_, list)| {
@@ -194,6 +194,10 @@ pub fn declared() -> [Functions; 2] {
 }
 
 fn declared_function(item: &str) -> (String, Signature) {
+    let item = match item.split_once("(edited: &mut Edited") {
+        Some((name, rest)) => format!("{name}(arm: &Arm{rest} -> Edited"),
+        None => item.to_string(),
+    };
     let (name, parameters, result) = signature(item.strip_prefix("fn ").unwrap());
     let parameters = parameters
         .iter()
