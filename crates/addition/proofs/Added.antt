@@ -11,6 +11,7 @@ use lib.ListN.{length, take, drop, getD, set, length-map, length-append, length-
 use lib.Seq.{take-suc-set, getD-at}
 use lib.Ieee.{Float}
 use Rattle.limits.specs.Limits.{linkLimit, couplingLimit}
+use Rattle.refusal.proofs.Tests.{both-hold}
 use Rattle.floats.specs.Floats.{allFinite, zero32}
 use Rattle.masks.specs.Masks.{dofsOf, dampingRow}
 use Rattle.masks.specs.Answers.{laid}
@@ -28,7 +29,6 @@ use Rattle.arm.specs.Arm.{liveLinks, linksOf, couplingsOf, tagOf, lockedOf, tag
 use Rattle.arm.specs.Arm as of-arm
 use Rattle.arm.specs.Edits.{modify}
 use Rattle.arm.specs.HandedIn.{every, differs, isNew, unique, tagsUnique, parentsEarlier, couplingLinksFit, jointMasksFit, linkMasksFit, rootMaskFits, rootFits, linkFinite, rowsFinite, linkAngleFits}
-use Rattle.arm.proofs.Accepted.{both-hold}
 use Rattle.arm.proofs.Every.{every-map}
 use Rattle.arm.proofs.Live.{links-live, masks-live}
 use Rattle.settled.proofs.Accepted.{Accepted}

@@ -8,6 +8,7 @@ use lib.Dec.{eqb}
 use lib.ListN.{length, take, drop}
 use lib.Seq.{take-at, length-take-le}
 use lib.Ieee.{Float, binary32, ofBits, ofFields, lt}
+use Rattle.refusal.proofs.Tests.{both-hold}
 use Rattle.floats.specs.Floats.{isFinite, allFinite, zero32, one32}
 use Rattle.masks.specs.Masks.{isFree, dampingOf, dampingBelow, dampingRow}
 use Rattle.masks.specs.Answers.{laid}
@@ -16,7 +17,6 @@ use Rattle.planar.specs.Poses.{rotationOf, translationOf, identityPose, finiteR
 use Rattle.arm.specs.declared.Row.{Row}
 use Rattle.arm.specs.Arm.{entriesTo}
 use Rattle.arm.specs.HandedIn.{jointFinite, linkFinite, angleFits, linkAngleFits}
-use Rattle.arm.proofs.Accepted.{both-hold}
 use Rattle.settled.proofs.Lists.{both}
 use Rattle.addition.specs.declared.NewLink.{NewLink}
 use Rattle.addition.specs.NewLink.{zeros, origin, linkOf, entriesSet}

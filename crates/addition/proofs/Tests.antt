@@ -1,18 +1,18 @@
 -- What is tested of a new link, as the code does; and what an addition that is not refused knows. Assumes nothing.
 use Prim.Native.Nat.{ℕ, zero, suc, _≤_, _<_}
-use mathlib.Core.Path.{_≡_, refl, sym, ap, _∙_}
-use mathlib.Core.Bool.{Bool, true, _&&_, _||_}
+use mathlib.Core.Path.{_≡_, refl}
+use mathlib.Core.Bool.{true, _&&_, _||_}
 use mathlib.Core.List.{List}
 use native.Mathlib.Omega.{arith}
 use borrow.Author.Tests.{leb-true, ltb-true, eqb-true}
 use lib.Dec.{eqb, ltb}
 use lib.Ieee.{Float}
 use Rattle.limits.specs.Limits.{linkLimit}
+use Rattle.refusal.proofs.Tests.{both-hold}
 use Rattle.topology.specs.Parents.{parentFits}
 use Rattle.arm.specs.declared.Arm.{Arm}
 use Rattle.arm.specs.Arm.{tagsOf}
 use Rattle.arm.specs.HandedIn.{isNew, armRefusal}
-use Rattle.arm.proofs.Accepted.{both-hold}
 use Rattle.working.specs.Outcome.{tablesFit}
 use Rattle.settled.specs.Above.{aboveFinite}
 use Rattle.settled.proofs.Lowest.{none-of, holds}

@@ -64,7 +64,7 @@ unfolding emptyArm armRefusal armEntries lowerOf linksOf couplingsOf tagsOf pare
 empty-accepted = refl
 
 empty-settled : (t : List Float) → Settled emptyArm (cleared t)
-unfolding emptyArm stateAfter fineAfter pass
+unfolding emptyArm stateAfter fineAfter pass allBelow
 empty-settled t = settles emptyArm (blank-shaped .sized .links) t (omega arith) (accepted emptyArm empty-accepted) refl
 
 empty-holds : (t : List Float) → tableSize ≤ length t → Holds (emptied t)

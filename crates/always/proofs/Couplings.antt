@@ -10,6 +10,7 @@ use lib.Dec.{leb}
 use lib.ListN.{take, set, length-set}
 use lib.Ieee.{Float}
 use Rattle.limits.specs.Limits.{linkLimit, couplingLimit}
+use Rattle.refusal.proofs.Tests.{both-hold}
 use Rattle.floats.specs.Floats.{isFinite}
 use Rattle.masks.specs.Masks.{isAxis}
 use Rattle.arm.specs.declared.Coupling.{Coupling}
@@ -17,7 +18,6 @@ use Rattle.arm.specs.declared.Arm.{Arm}
 use Rattle.arm.specs.Arm.{linksOf, couplingsOf, isLink, tagsOf, parentsOf, masksOf, dofCountOf, rowsOf}
 use Rattle.arm.specs.HandedIn.{every, tagsUnique, parentsEarlier, couplingLinksFit, rootFits, couplingAxesFit, couplingFinite, rowsFinite}
 use Rattle.arm.specs.Agree.{Sized}
-use Rattle.arm.proofs.Accepted.{both-hold}
 use Rattle.arm_edits.specs.declared.NewCoupling.{NewCoupling}
 use Rattle.arm_edits.specs.Couplings.{couplingEntries, couplingRefusal, couplingOf, withCoupling, couplingAdded}
 use Rattle.arm_edits.proofs.Accepted.{coupling-fits}
@@ -26,9 +26,9 @@ use Rattle.working.specs.Full.{Settled}
 use Rattle.working.proofs.Tests.{holds-in}
 use Rattle.settled.specs.Promise.{Right}
 use Rattle.settled.proofs.Lists.{both}
-use Rattle.settled.proofs.Settles.{facts}
+use Rattle.settled.proofs.Settles.{facts, nowhere}
 use Rattle.settled.proofs.Right.{Edit}
-use Rattle.always.proofs.Unworked.{nowhere, still-ready, edit-right}
+use Rattle.always.proofs.Unworked.{still-ready, edit-right}
 
 -- a test of each, and of one that is stored behind them
 one-more : {A : Type 0} (test : A → Bool) (n : ℕ) (xs : List A) (x : A) → every test (take n xs) ≡ true → test x ≡ true → every test (take (suc n) (set xs n x)) ≡ true

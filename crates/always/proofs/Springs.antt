@@ -9,6 +9,7 @@ use lib.ListN.{length, set, length-set}
 use lib.Seq.{take-all}
 use lib.Ieee.{Float}
 use native.Mathlib.Omega.{arith}
+use Rattle.refusal.proofs.Tests.{both-hold}
 use Rattle.floats.specs.Floats.{isFinite, allFinite}
 use Rattle.masks.specs.Starts.{startOf}
 use Rattle.planar.specs.Poses.{finiteRotation, finitePoint, finitePose}
@@ -22,7 +23,6 @@ use Rattle.arm.specs.Arm.{liveLinks, linksOf}
 use Rattle.arm.specs.Edits.{modify, withLinks}
 use Rattle.arm.specs.HandedIn.{jointFinite, linkFinite, angleFits, linkAngleFits}
 use Rattle.arm.specs.Agree.{Sized}
-use Rattle.arm.proofs.Accepted.{both-hold}
 use Rattle.arm_edits.specs.Springs.{springFinite, springEntries, springRefusal, withJoint, linkSpringSet, withLinkSpring, armSpringSet}
 use Rattle.kinematics.specs.Blocks.{blockAt}
 use Rattle.kinematics.specs.Link.{Kept, Inputs, rootPosed, laterPosed, keptOf, rootKept, laterKept, finiteKept}
@@ -37,9 +37,9 @@ use Rattle.settled.specs.Promise.{Right}
 use Rattle.settled.proofs.Accepted.{Accepted, accepted, not-refused as none-refused}
 use Rattle.settled.proofs.Lists.{both, same-map}
 use Rattle.settled.proofs.Modified.{length-modify, modify-other, modify-field, modify-tests}
-use Rattle.settled.proofs.Settles.{facts}
+use Rattle.settled.proofs.Settles.{facts, nowhere}
 use Rattle.settled.proofs.Right.{Edit}
-use Rattle.always.proofs.Unworked.{nowhere, edit-right}
+use Rattle.always.proofs.Unworked.{edit-right}
 use Rattle.always.proofs.Rows.{set-finite}
 use Rattle.always.proofs.Shapes.{coordinates, Threes, coordinates-stay}
 

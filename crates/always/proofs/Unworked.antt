@@ -1,45 +1,25 @@
 -- An edit of what no link's results are worked out from is a call that works no link out, and so keeps the promise of a call on one link. Assumes nothing.
 use Prim.Native.Nat.{ℕ, zero, suc, _≤_}
 use mathlib.Core.Path.{_≡_, refl, ap₂, subst, _∙_}
-use mathlib.Core.Bool.{Bool, true, false}
+use mathlib.Core.Bool.{Bool}
 use mathlib.Core.List.{List}
 use lib.ListN.{length}
 use lib.Ieee.{Float}
 use Rattle.limits.specs.Limits.{linkLimit, tableSize}
-use Rattle.arm.specs.declared.Link.{Link}
 use Rattle.arm.specs.declared.Arm.{Arm}
 use Rattle.arm.specs.Edits.{edited}
 use Rattle.arm.specs.Agree.{Sized}
-use Rattle.kinematics.specs.Pass.{run, allTo}
-use Rattle.kinematics.specs.State.{State, state, stateAfter, fineAfter}
+use Rattle.kinematics.specs.State.{State}
 use Rattle.kinematics.specs.Promises.{Ready}
 use Rattle.working.specs.Outcome.{out, says, unlessRefused, workedMarked}
 use Rattle.working.specs.Full.{Settled}
 use Rattle.settled.specs.Promise.{Right}
-use Rattle.settled.proofs.Settles.{workedTo, worked-marked, Facts, facts}
+use Rattle.settled.proofs.Settles.{workedTo, worked-marked, nowhere, left-alone, untested, Facts, facts}
 use Rattle.settled.proofs.Right.{Edit, right}
-
--- no link is marked
-abbrev pub nowhere : ℕ → Bool
-nowhere j = false
 
 -- links that stay are as fresh as they were
 pub still-ready : (a : Arm) (t : List Float) → Facts a t → Ready (a .links) (a .«link_count») nowhere t
 still-ready a t k = record { closed = λ j h q z. z; fresh = λ j h z. k .fresh j h; finite = λ j h z. k .finite j h; unused = k .unused }
-
--- the pass over no link
-left-alone : (ls : List Link) (n : ℕ) (t : List Float) → stateAfter ls n nowhere t ≡ state ls t
-unfolding stateAfter run
-left-alone ls zero t = refl
-left-alone ls (suc n) t = left-alone ls n t
-
-untested : (ls : List Link) (n : ℕ) (t : List Float) → fineAfter ls n nowhere t ≡ true
-unfolding fineAfter
-untested ls n t = go n
-  where
-    go : (m : ℕ) → allTo m (λ j. true) ≡ true
-    go zero = refl
-    go (suc m) = rw (go m)
 
 unworked : (a new : Arm) (t : List Float) → new .«link_count» ≤ linkLimit → tableSize ≤ length t → workedMarked a new nowhere t ≡ says 0 new t
 unworked a new t few long =

@@ -1,5 +1,5 @@
 -- The words of a line, one after the other: there are never more than bytes, so the length is enough of them. Assumes nothing.
-use mathlib.Core.Path.{_≡_, refl, sym, _∙_}
+use mathlib.Core.Path.{_≡_, refl}
 use mathlib.Core.Bool.{Bool, true, false, cond, _&&_}
 use mathlib.Core.List.{List, [], _∷_}
 use Prim.Native.Nat.{ℕ, zero, suc, _+_, _-_, _≤_, _<_}
@@ -7,7 +7,7 @@ use native.Mathlib.Omega.{arith}
 use borrow.Author.Tests.{ltb-true, ltb-false, le-ltb}
 use lib.Dec.{ltb, leb}
 use lib.ListN.{length, drop, drop-of-length-le}
-use Rattle.script_words.specs.Words.{space, run, bytesBefore, spacesIn, wordAt, nextWord, partOf}
+use Rattle.script_words.specs.Words.{run, spacesIn, wordAt, nextWord, partOf}
 use Rattle.script_words.specs.declared.Word.{Word}
 use Rattle.script_words.specs.declared.Word.the-variants.{At, Missing}
 use Rattle.answer_classes.specs.LineWords.{wordsTo, wordThen}

@@ -1,7 +1,7 @@
 -- A list of tests that gives no refusal: each test holds. And a call's own tests go before the arm's. Assumes nothing.
 use Prim.Native.Nat.{ℕ, suc, _≤_, _<_}
 use mathlib.Core.Path.{_≡_, refl}
-use mathlib.Core.Bool.{Bool, true, false, _&&_}
+use mathlib.Core.Bool.{Bool, true, false}
 use mathlib.Core.Logic.{inl, inr}
 use mathlib.Core.List.{List, _∷_}
 use native.Mathlib.Nat.{eq-zero-or-pos}
@@ -10,6 +10,7 @@ use borrow.Author.Tests.{leb-true, ltb-true}
 use Rattle.limits.specs.Limits.{linkLimit, couplingLimit}
 use Rattle.refusal.specs.Refusal.{unlessOf, lowerOf, lowest}
 use Rattle.refusal.proofs.Laws.{is-lowest}
+use Rattle.refusal.proofs.Tests.{both-hold}
 use Rattle.arm.specs.declared.Arm.{Arm}
 use Rattle.arm.specs.Arm.{liveLinks, isLink}
 use Rattle.arm.specs.HandedIn.{countsFit, parentsEarlier, couplingsLinksFit, linkNumbersFit, armEntries, armRefusal}
@@ -28,13 +29,6 @@ rest-accepted k ks e = elim (eq-zero-or-pos (lowest ks)) [
   | inl z ↦ z
   | inr l ↦ is-lowest (k ∷ ks) .none e (lowest ks) (inr (is-lowest ks .given (λ z. omega arith)))
 ]
-
-pub both-hold : (a b : Bool) → (a && b) ≡ true → (a ≡ true) × (b ≡ true)
-both-hold true b e = (refl, e)
-both-hold false b e = absurd (let z : true ≡ false = (cc) in differ z)
-  where
-    differ : true ≡ false → ⊥
-    differ z = let o : _≡_ {A = ℕ} 0 1 = cc in omega arith
 
 -- ---- with the arm's
 

@@ -264,7 +264,7 @@ pub fn is_finite_joint(j: Joint) -> bool
         & all_finite(&rest)
 }
 
-pub fn is_finite_link(l: Link) -> bool
+fn is_finite_link(l: Link) -> bool
     ensures { λ r. ⌜ r ≡ linkFinite l ⌝ }
 {
     is_finite_joint(l.joint)

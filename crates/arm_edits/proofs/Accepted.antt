@@ -9,13 +9,14 @@ use lib.Dec.{ltb}
 use lib.Ieee.{Float}
 use Rattle.limits.specs.Limits.{linkLimit, couplingLimit}
 use Rattle.refusal.specs.Refusal.{unlessOf}
+use Rattle.refusal.proofs.Tests.{both-hold}
 use Rattle.floats.specs.Floats.{isFinite}
 use Rattle.masks.specs.Masks.{isAxis, isFree}
 use Rattle.multibody_joint.specs.declared.Spring.{Spring}
 use Rattle.arm.specs.declared.Arm.{Arm}
 use Rattle.arm.specs.Arm.{isLink, maskAt}
 use Rattle.arm.specs.HandedIn.{armEntries}
-use Rattle.arm.proofs.Accepted.{first-holds, rest-accepted, both-hold, counts-accepted, Link-there, there}
+use Rattle.arm.proofs.Accepted.{first-holds, rest-accepted, counts-accepted, Link-there, there}
 use Rattle.arm_edits.specs.declared.NewCoupling.{NewCoupling}
 use Rattle.arm_edits.specs.Rows.{writeRefusal}
 use Rattle.arm_edits.specs.Springs.{springFinite, springRefusal}

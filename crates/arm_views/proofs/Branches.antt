@@ -1,23 +1,19 @@
 -- The branch of a link of an arm: an accepted call is accepted for the bare parents.
 -- Assumes nothing.
-use Prim.Native.Nat.{ℕ, zero, suc, _+_, _≤_, _<_}
-use mathlib.Core.Path.{_≡_, refl, sym, ap, _∙_}
-use mathlib.Core.Bool.{Bool, true, false, cond, _&&_}
+use Prim.Native.Nat.{ℕ, zero, suc, _≤_, _<_}
+use mathlib.Core.Path.{_≡_, sym, ap, _∙_}
+use mathlib.Core.Bool.{Bool, true}
 use mathlib.Core.List.{List, _∷_}
 use native.Mathlib.Omega.{arith}
-use native.Mathlib.Decide.{decLt}
 use borrow.Author.Tests.{le-leb, ltb-true, lt-ltb}
-use lib.Dec.{leb, ltb}
+use lib.Dec.{leb}
 use lib.ListN.{length}
 use Rattle.limits.specs.Limits.{linkLimit}
 use Rattle.refusal.specs.Refusal.{unlessOf, lowerOf}
-use Rattle.topology.specs.declared.Counted.{Counted}
-use Rattle.topology.specs.Parents.{parentOf, parentsFit, branch}
-use Rattle.topology.specs.Answers.{Outcome, given, refusalOf, branchAnswer}
-use Rattle.topology.proofs.Branch.{branch-none, branch-alone, branch-longer}
+use Rattle.topology.specs.Parents.{parentsFit, branch}
+use Rattle.topology.specs.Answers.{given, refusalOf, branchAnswer}
 use Rattle.arm.specs.declared.Arm.{Arm}
 use Rattle.arm.specs.Arm.{isLink, parentsOf}
-use Rattle.topology.proofs.Refused.{accepted}
 use Rattle.arm.specs.HandedIn.{parentsEarlier, armEntries}
 use Rattle.arm.proofs.Accepted.{first-holds, rest-accepted, counts-accepted, parents-accepted}
 use Rattle.arm.proofs.Live.{parents-live}

@@ -6,7 +6,7 @@ use lib.Ieee.{Float}
 use Rattle.arm.specs.declared.Arm.{Arm}
 use Rattle.arm.specs.Arm.{startAt}
 use Rattle.arm_views.specs.declared.Role.{Role}
-use Rattle.arm_views.specs.View.{Seen, viewAnswer}
+use Rattle.arm_views.specs.View.{viewAnswer}
 use Rattle.exports_views.specs.declared.RowPart.{RowPart}
 
 -- from a start, as many entries as the part has; refused, the number alone

@@ -12,12 +12,12 @@ use lib.Ieee.{Float}
 use Rattle.limits.specs.Limits.{linkLimit, dofLimit, blockSize, tableSize}
 use Rattle.refusal.specs.Refusal.{unlessOf, In}
 use Rattle.refusal.proofs.Laws.{is-lowest}
+use Rattle.refusal.proofs.Tests.{both-hold}
 use Rattle.floats.specs.Floats.{allFinite}
 use Rattle.elimination.proofs.Rows.{part-length}
 use Rattle.arm.specs.declared.Arm.{Arm}
 use Rattle.arm.specs.Arm.{dofCountOf}
 use Rattle.arm.specs.HandedIn.{countsFit, armEntries}
-use Rattle.arm.proofs.Accepted.{both-hold}
 use Rattle.arm.proofs.Live.{dof-count-le}
 use Rattle.kinematics.specs.Blocks.{blockAt}
 use Rattle.kinematics.proofs.Blocks.{room}

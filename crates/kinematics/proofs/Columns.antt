@@ -14,6 +14,7 @@ use lib.ListN.{length, drop, getD, set, length-map, List·getD-map, List·getD-a
 use lib.Seq.{getD-append-add, getD-take, getD-drop, getD-set-other}
 use lib.Ieee.{Float, nan, inf, fin, binary32, add, mul, neg, round, units, odd, sum, size, span, climb, up, down, unlike}
 use Rattle.limits.specs.Limits.{dofLimit, blockSize}
+use Rattle.refusal.proofs.Tests.{both-hold}
 use Rattle.floats.specs.Floats.{zero32, isFinite, allFinite, zipTo}
 use Rattle.floats.proofs.Rows.{length-zipTo}
 use Rattle.floats.proofs.Zeros.{nought, zero-is, positive}
@@ -21,6 +22,7 @@ use Rattle.masks.specs.Masks.{isFree, dofsBelow, dofsOf}
 use Rattle.masks.specs.Starts.{startOf}
 use Rattle.masks.proofs.Laws.{below-free, dofs-le}
 use Rattle.masks.proofs.Totals.{start-room, start-le}
+use Rattle.topology.proofs.Tables.{all-at}
 use Rattle.planar.specs.declared.Point.{Point}
 use Rattle.planar.specs.declared.Rotation.{Rotation}
 use Rattle.planar.specs.Poses.{finitePoint, finitePose}
@@ -32,7 +34,6 @@ use Rattle.kinematics.specs.State.{State, noLink, linkAt, parentOf, lock
 use Rattle.kinematics.specs.Promises.{Fits, ZeroFrom, ZerosStay, ZerosPast}
 use Rattle.kinematics.proofs.Shift.{row-length}
 use Rattle.kinematics.proofs.Store.{shifted-size, own-size, at-shape}
-use Rattle.kinematics.proofs.Small.{and-left, and-right, all-at}
 use Rattle.kinematics.proofs.Promises.{all-fresh, after-good}
 
 -- ---- zeros
@@ -103,9 +104,9 @@ module _ (s : Point) (b : List Float) (e : length b ≡ blockSize) (ok : finiteP
       let o : 0 * dofLimit + c ≡ c = omega arith in
       let p : dofLimit + c ≡ length x + c = omega (arith, x-length) in
       let q : 2 * dofLimit + c ≡ length x + (length y + c) = omega (arith, x-length, y-length) in (
-        List·getD-append x (y ++ row 2 b) nan c (omega (arith, x-length)) ∙ zip-zero (neg (s .y)) (neg-finite (s .y) ∙ and-right (isFinite (s .x)) _ ok) 0 (omega arith) (row-at 0 b c h ∙ ap (λ (k : ℕ). getD b k nan) o ∙ z c l h .0),
+        List·getD-append x (y ++ row 2 b) nan c (omega (arith, x-length)) ∙ zip-zero (neg (s .y)) (neg-finite (s .y) ∙ both-hold (isFinite (s .x)) _ ok .1) 0 (omega arith) (row-at 0 b c h ∙ ap (λ (k : ℕ). getD b k nan) o ∙ z c l h .0),
         ap (λ (k : ℕ). getD (x ++ (y ++ row 2 b)) k nan) p ∙ getD-append-add x (y ++ row 2 b) c nan ∙ List·getD-append y (row 2 b) nan c (omega (arith, y-length))
-            ∙ zip-zero (s .x) (and-left (isFinite (s .x)) _ ok) 1 (omega arith) (row-at 1 b c h ∙ z c l h .1),
+            ∙ zip-zero (s .x) (both-hold (isFinite (s .x)) _ ok .0) 1 (omega arith) (row-at 1 b c h ∙ z c l h .1),
         ap (λ (k : ℕ). getD (x ++ (y ++ row 2 b)) k nan) q ∙ getD-append-add x (y ++ row 2 b) (length y + c) nan ∙ getD-append-add y (row 2 b) c nan ∙ w-zero,
       )
 
@@ -148,15 +149,15 @@ zeros-stay p locked start d b e room g f₂ f₃ z =
 module _ (p : Posed) (x : Inputs) (b : List Float) (ok : finiteKept (keptOf p x b) ≡ true) where
   place-finite : finitePlace (p .world) (p .shift02) (p .shift23) ≡ true
   unfolding keptOf finiteKept
-  place-finite = and-left _ (allFinite (blockFrom p (x .joint .locked) (x .start) b)) ok
+  place-finite = both-hold _ (allFinite (blockFrom p (x .joint .locked) (x .start) b)) ok .0
 
   first-finite : finitePoint (p .shift02) ≡ true
   unfolding finitePlace
-  first-finite = and-right (finitePose (p .world)) _ (and-left _ (finitePoint (p .shift23)) place-finite)
+  first-finite = both-hold (finitePose (p .world)) _ (both-hold _ (finitePoint (p .shift23)) place-finite .0) .1
 
   second-finite : finitePoint (p .shift23) ≡ true
   unfolding finitePlace
-  second-finite = and-right (finitePose (p .world) && finitePoint (p .shift02)) _ place-finite
+  second-finite = both-hold (finitePose (p .world) && finitePoint (p .shift02)) _ place-finite .1
 
 kept-zero : (p : Posed) (x : Inputs) (b : List Float) (d : ℕ) → length b ≡ blockSize → x .start + 3 ≤ dofLimit → x .start + dofsOf (x .joint .locked) ≤ d → finiteKept (keptOf p x b) ≡ true
     → ZeroFrom d b → ZeroFrom d (keptOf p x b .block)

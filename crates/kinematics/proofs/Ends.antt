@@ -1,6 +1,6 @@
 -- The two passes' ends: too short, not finite, or done. Assumes nothing.
 use mathlib.Core.Path.{_≡_, sym, ap, _∙_}
-use Prim.Native.Nat.{ℕ, min, _+_, _*_, _≤_, _<_}
+use Prim.Native.Nat.{ℕ, min, _*_, _≤_, _<_}
 use mathlib.Core.Bool.{Bool, true, false, cond}
 use mathlib.Core.List.{List, _++_}
 use native.Mathlib.Omega.{arith}

@@ -3,7 +3,7 @@
 use mathlib.Core.Path.{_≡_, refl, sym, ap, ap₂, _∙_, subst}
 use mathlib.Core.Logic.{_≢_}
 use Prim.Native.Nat.{ℕ, zero, suc, min, _-_, _≤_, _<_}
-use mathlib.Core.Bool.{Bool, true, false, cond, _&&_, and-true, and-false}
+use mathlib.Core.Bool.{Bool, true, false, cond, and-true, and-false}
 use mathlib.Core.List.{List, map}
 use native.Mathlib.Omega.{arith}
 use native.Mathlib.Decide.{decLt}
@@ -13,14 +13,16 @@ use lib.ListN.{length, set}
 use lib.Seq.{set-getD}
 use lib.Ieee.{Float}
 use Rattle.limits.specs.Limits.{linkLimit, dofLimit, tableSize}
+use Rattle.refusal.proofs.Tests.{both-hold}
 use Rattle.masks.specs.Starts.{startOf}
+use Rattle.topology.specs.Tables.{allBelow}
+use Rattle.topology.proofs.Tables.{all-below}
 use Rattle.arm.specs.declared.Link.{Link}
 use Rattle.kinematics.specs.Blocks.{zeroBlock, blockAt, withBlock}
 use Rattle.kinematics.specs.Link.{Kept, Inputs, posedOf, rootPosed, keptOf, rootKept, laterKept, finiteKept, withKept, TurnedTo}
 use Rattle.kinematics.specs.Pass.{run}
-use Rattle.kinematics.specs.State.{State, state, noLink, linkAt, parentOf, lockedOf, inputsOf, keptIn, keptAt, only, putKept, resultOf, stateAfter, fineAfter}
+use Rattle.kinematics.specs.State.{State, state, noLink, linkAt, parentOf, lockedOf, inputsOf, keptIn, keptAt, only, putKept, resultOf, stateAfter}
 use Rattle.kinematics.specs.Answers.{Outcome, out, passed, refreshMarked, TurnedOutcome, turnedOut, oneKept, oneFits, refreshOne}
-use Rattle.kinematics.proofs.Small.{and-left, and-right}
 use Rattle.kinematics.proofs.Turns.{start-room, newOf, fineTo, fine-all, Turn, turned-kept}
 use Rattle.kinematics.proofs.Ends.{marked-short, is-marked}
 
@@ -29,8 +31,9 @@ use Rattle.kinematics.proofs.Ends.{marked-short, is-marked}
 -- what it is to fit
 pub fits : (start j : ℕ) (t : List Float) → oneFits start j t ≡ true → (tableSize ≤ length t) × (j < linkLimit) × (start ≤ dofLimit - 3)
 fits start j t h =
-    let both = and-left _ (leb start (dofLimit - 3)) h in
-    (leb-true _ _ (and-left _ (ltb j linkLimit) both), ltb-true _ _ (and-right (leb tableSize (length t)) _ both), leb-true _ _ (and-right (leb tableSize (length t) && ltb j linkLimit) _ h))
+    let all = both-hold _ (leb start (dofLimit - 3)) h in
+    let first = both-hold _ (ltb j linkLimit) (all .0) in
+    (leb-true _ _ (first .0), ltb-true _ _ (first .1), leb-true _ _ (all .1))
 
 module _ (l above : Link) (start j : ℕ) (t : List Float) where
   abbrev x : Inputs
@@ -103,13 +106,14 @@ module _ (j : ℕ) where
     ]
 
     fine-before : (n : ℕ) → n ≤ j → fineTo ls (only j) t n ≡ true
-    fine-before zero h = refl
-    fine-before (suc n) h = rw (other n (omega arith), fine-before n (omega arith))
+    fine-before n h = all-below n _ (λ i l. rw (other i (omega arith)))
 
     fine-at : fineTo ls (only j) t (suc j) ≡ finiteKept (newOf ls (only j) t j)
+    unfolding allBelow
     fine-at = rw (own, fine-before j (omega arith))
 
     fine-after : (n : ℕ) → j < n → fineTo ls (only j) t n ≡ finiteKept (newOf ls (only j) t j)
+    unfolding allBelow
     fine-after zero h = absurd (omega arith)
     fine-after (suc n) h = elim (decLt j n) [
       | yes q ↦ rw (other n (omega arith), fine-after n q) (and-true _)

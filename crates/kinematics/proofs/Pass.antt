@@ -8,8 +8,10 @@ use native.Mathlib.Omega.{arith}
 use native.Mathlib.Decide.{le-ind}
 use borrow.Author.Tests.{ltb-true}
 use lib.Dec.{ltb}
-use Rattle.kinematics.specs.Pass.{Ops, Laws, Closed, newAt, run, FreshAt, allTo}
-use Rattle.kinematics.proofs.Small.{not-then, pick, all-same}
+use Rattle.topology.specs.Tables.{allBelow}
+use Rattle.topology.proofs.Tables.{all-same}
+use Rattle.kinematics.specs.Pass.{Ops, Laws, Closed, newAt, run, FreshAt}
+use Rattle.kinematics.proofs.Small.{not-then, pick}
 
 module _ {In Out Store : Type 0} (O : Ops In Out Store) (par : ℕ → ℕ) (xs : ℕ → In) where
   -- ---- one result
@@ -122,7 +124,7 @@ module _ {In Out Store : Type 0} (O : Ops In Out Store) (par : ℕ → ℕ) (xs 
     stays-good = good n (omega arith)
 
     -- a result tested as it is worked out is tested as it is left
-    pub tests-run : (ok : Out → Bool) → allTo n (λ j. cond (b j) (ok (newAt O par xs (r j) j)) true) ≡ allTo n (λ j. cond (b j) (ok (O .at (r n) j)) true)
+    pub tests-run : (ok : Out → Bool) → allBelow n (λ j. cond (b j) (ok (newAt O par xs (r j) j)) true) ≡ allBelow n (λ j. cond (b j) (ok (O .at (r n) j)) true)
     tests-run ok = all-same n _ _ (λ j h. go j (b j) (after j n h (omega arith) ∙ turn-same j h))
       where
         go : (j : ℕ) (m : Bool) → O .at (r n) j ≡ cond m (newAt O par xs (r j) j) (O .at (r j) j)
@@ -154,7 +156,7 @@ module _ {In Out Store : Type 0} (O : Ops In Out Store) (par : ℕ → ℕ) (xs 
 
       -- and where every unmarked result passes a test, the marked ones pass it exactly when all of the full pass do
       pub pass-tests : (s′ : Store) → L .Good s′ → (ok : Out → Bool) → ((j : ℕ) → j < n → b j ≡ false → ok (O .at s j) ≡ true)
-          → allTo n (λ j. cond (b j) (ok (O .at (run O par xs b n s) j)) true) ≡ allTo n (λ j. ok (O .at (full s′) j))
+          → allBelow n (λ j. cond (b j) (ok (O .at (run O par xs b n s) j)) true) ≡ allBelow n (λ j. ok (O .at (full s′) j))
       pass-tests s′ g′ ok fine = all-same n _ _ (λ j h.
           untested (b j) _ (λ e. ap ok (untouched N n fit L b s g j h e) ∙ fine j h e) ∙ ap ok (pass-full s′ g′ j h))
         where

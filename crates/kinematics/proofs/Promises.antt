@@ -13,13 +13,13 @@ use Rattle.limits.specs.Limits.{linkLimit, blockSize, tableSize}
 use Rattle.floats.specs.Floats.{zero32}
 use Rattle.masks.specs.Masks.{dofsOf}
 use Rattle.masks.specs.Starts.{startOf, totalOf}
+use Rattle.topology.proofs.Tables.{all-same}
 use Rattle.arm.specs.declared.Link.{Link}
 use Rattle.kinematics.specs.Blocks.{blockAt, zeroBlock, withBlock}
 use Rattle.kinematics.specs.Link.{Kept, finiteKept, withPlace, withKept}
 use Rattle.kinematics.specs.Pass.{run}
 use Rattle.kinematics.specs.State.{State, state, noLink, linkAt, parentOf, lockedOf, inputsOf, keptAt, putKept, keptOps, every, resultOf, stateAfter, fineAfter, cleared, laid, newBlock}
 use Rattle.kinematics.specs.Promises.{Fits, Ready, LikeFull, AllFresh, Stays, Rising, UpTo}
-use Rattle.kinematics.proofs.Small.{all-same}
 use Rattle.kinematics.proofs.Pass.{new-same, untouched, beyond, stays-good, pass-full, pass-tests}
 use Rattle.kinematics.proofs.Blocks.{blocks-same, block-front, replicated}
 use Rattle.kinematics.proofs.Laid.{laid-front, laid-length}

@@ -1,7 +1,7 @@
 -- The pass over an arm's links, as demand 3 needs it: from links that are fresh where unmarked it leaves what the full pass leaves, and unmarked links and
 -- blocks stay. Each law is that of any store. Assumes nothing.
 use mathlib.Core.Path.{_≡_, refl, sym, ap, ap₂, _∙_}
-use Prim.Native.Nat.{ℕ, zero, suc, _+_, _*_, _≤_, _<_}
+use Prim.Native.Nat.{ℕ, zero, suc, _*_, _≤_, _<_}
 use mathlib.Core.Bool.{Bool}
 use mathlib.Core.List.{List, _++_}
 use native.Mathlib.Omega.{arith}
@@ -9,11 +9,11 @@ use lib.ListN.{length, set, drop, replicate, length-replicate, length-append}
 use lib.Ieee.{Float}
 use Rattle.limits.specs.Limits.{linkLimit, blockSize, tableSize}
 use Rattle.floats.specs.Floats.{zero32}
+use Rattle.topology.proofs.Tables.{all-same}
 use Rattle.arm.specs.declared.Link.{Link}
 use Rattle.kinematics.specs.Link.{Kept, finiteKept, withKept}
 use Rattle.kinematics.specs.Pass.{run}
 use Rattle.kinematics.specs.State.{State, state, linkAt, parentOf, inputsOf, keptAt, putKept, keptOps, every, resultOf, stateAfter, fineAfter, cleared, laid, newBlock, WorkedOut}
-use Rattle.kinematics.proofs.Small.{all-same}
 use Rattle.kinematics.proofs.Pass.{new-same, only, run-same, full-fresh}
 use Rattle.kinematics.proofs.Laid.{laid-same, laid-front}
 use Rattle.kinematics.proofs.Store.{laws}

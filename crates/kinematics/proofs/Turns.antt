@@ -16,11 +16,12 @@ use Rattle.floats.specs.Floats.{zero32, allFinite}
 use Rattle.masks.specs.Masks.{dofsOf}
 use Rattle.masks.specs.Starts.{startOf, totalOf}
 use Rattle.masks.proofs.Totals.{start-next, start-le}
+use Rattle.topology.specs.Tables.{allBelow}
 use Rattle.arm.specs.declared.Link.{Link}
 use Rattle.kinematics.specs.declared.Posed.{Posed}
 use Rattle.kinematics.specs.Blocks.{part, zeroBlock, blockAt, withBlock, copiedFrom}
 use Rattle.kinematics.specs.Link.{Kept, Inputs, posedOf, laterPosed, rootPosed, blockFrom, keptOf, rootKept, laterKept, finitePlace, finiteKept, withPlace, withKept, TurnedTo}
-use Rattle.kinematics.specs.Pass.{run, allTo}
+use Rattle.kinematics.specs.Pass.{run}
 use Rattle.kinematics.specs.State.{State, state, noLink, linkAt, parentOf, lockedOf, inputsOf, keptAt, putKept, keptOps, resultOf, stateAfter, fineAfter, laid, newBlock, WorkedOut}
 use Rattle.kinematics.proofs.Pass.{turn-shape, tests-run}
 use Rattle.kinematics.proofs.Blocks.{part-length, block-same, block-length, lent-part, with-with}
@@ -47,7 +48,7 @@ module _ (ls : List Link) (b : ℕ → Bool) (t : List Float) where
 
   -- the results so far are finite
   abbrev pub fineTo : ℕ → Bool
-  fineTo j = allTo j (λ i. cond (b i) (finiteKept (newOf i)) true)
+  fineTo j = allBelow j (λ i. cond (b i) (finiteKept (newOf i)) true)
 
   pub none-links : ls ≡ stateAfter ls 0 b t .links
   unfolding stateAfter run
@@ -63,9 +64,11 @@ module _ (ls : List Link) (b : ℕ → Bool) (t : List Float) where
   more-links j links e h l q = rw (add-one, h, q, e)
 
   pub fine-skip : (j : ℕ) (f : Bool) → f ≡ fineTo j → b j ≡ false → f ≡ fineTo (j + 1)
+  unfolding allBelow
   fine-skip j f e h = e ∙ rw (add-one, h) (sym (and-true _))
 
   pub fine-more : (j : ℕ) (f g : Bool) → f ≡ fineTo j → b j ≡ true → g ≡ finiteKept (newOf j) → (f && g) ≡ fineTo (j + 1)
+  unfolding allBelow
   fine-more j f g e h q = rw (add-one, h, e, q)
 
   -- the tables that the pass leaves are the blocks laid over them
@@ -226,7 +229,7 @@ pub record Held (ls : List Link) (n : ℕ) (b : ℕ → Bool) (t work₀ : List 
   pub tested : fine ≡ fineTo ls b t j
 
 pub held-none : (ls : List Link) (n : ℕ) (b : ℕ → Bool) (t work₀ : List Float) → length ls ≡ linkLimit → length work₀ ≡ tableSize → Held ls n b t work₀ 0 0 work₀ ls true
-unfolding startOf totalOf
+unfolding startOf totalOf allBelow
 held-none ls n b t work₀ p q = record {
   within = omega arith;
   places = p;

@@ -2,7 +2,7 @@
 use mathlib.Core.Path.{_≡_}
 use mathlib.Core.Logic.{_≢_}
 use Prim.Native.Nat.{ℕ, zero, suc, _<_}
-use mathlib.Core.Bool.{Bool, true, cond, _&&_}
+use mathlib.Core.Bool.{Bool, true, cond}
 use lib.Dec.{ltb}
 
 pub record Ops (In Out Store : Type 0) : Type 0 where
@@ -12,11 +12,6 @@ pub record Ops (In Out Store : Type 0) : Type 0 where
   pub later : Out → In → Out
   pub at : Store → ℕ → Out
   pub put : Store → ℕ → Out → Store
-
--- every one of the first n passes
-abbrev pub allTo : ℕ → (ℕ → Bool) → Bool
-allTo zero test = true
-allTo (suc n) test = allTo n test && test n
 
 -- par gives each link's parent, xs its inputs
 module _ {In Out Store : Type 0} (O : Ops In Out Store) (par : ℕ → ℕ) (xs : ℕ → In) where

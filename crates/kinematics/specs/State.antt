@@ -9,13 +9,14 @@ use lib.Ieee.{Float, nan}
 use Rattle.limits.specs.Limits.{tableSize}
 use Rattle.floats.specs.Floats.{zero32}
 use Rattle.masks.specs.Starts.{startOf}
+use Rattle.topology.specs.Tables.{allBelow}
 use Rattle.planar.specs.declared.Pose.{Pose}
 use Rattle.planar.specs.declared.Point.{Point}
 use Rattle.multibody_joint.specs.declared.Joint.{Joint}
 use Rattle.arm.specs.declared.Link.{Link}
 use Rattle.kinematics.specs.Blocks.{blockAt, withBlock}
 use Rattle.kinematics.specs.Link.{Kept, Inputs, rootKept, laterKept, finiteKept, withKept}
-use Rattle.kinematics.specs.Pass.{Ops, newAt, run, allTo}
+use Rattle.kinematics.specs.Pass.{Ops, newAt, run}
 
 -- ---- the links
 
@@ -90,7 +91,7 @@ stateAfter ls n b t = run keptOps (parentOf ls) (inputsOf ls) b n (state ls t)
 
 -- every result that is worked out is finite
 unfoldable pub fineAfter : List Link → ℕ → (ℕ → Bool) → List Float → Bool
-fineAfter ls n b t = allTo n (λ j. cond (b j) (finiteKept (keptAt (stateAfter ls n b t) j)) true)
+fineAfter ls n b t = allBelow n (λ j. cond (b j) (finiteKept (keptAt (stateAfter ls n b t) j)) true)
 
 -- the tables with +0 in every place; memory past them stays
 abbrev pub cleared : List Float → List Float

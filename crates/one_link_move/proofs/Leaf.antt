@@ -11,18 +11,18 @@ use lib.Dec.{eqb, leb}
 use lib.ListN.{length, take, getD, List·getD-eq-default}
 use lib.Seq.{getD-take}
 use Rattle.limits.specs.Limits.{linkLimit}
+use Rattle.topology.specs.Tables.{allBelow}
 use Rattle.arm.proofs.Lists.{any-default}
 use Rattle.topology.specs.Parents.{parentOf, atOrBelow, marks}
-use Rattle.topology.proofs.Tables.{length-each, getD-each}
+use Rattle.topology.proofs.Tables.{length-each, getD-each, all-at}
 use Rattle.topology.proofs.Branch.{mark-none, mark-alone, mark-more}
-use Rattle.kinematics.specs.Pass.{allTo}
 use Rattle.kinematics.specs.State.{marked, only}
-use Rattle.kinematics.proofs.Small.{all-at}
 use Rattle.one_link_move.specs.Move.{leaf, noChild}
 
 -- a turn of the loop that tests it
-pub leaf-more : (ps : List ℕ) (n link i d : ℕ) (ok : Bool) → i < n → n ≤ length ps → ok ≡ allTo i (noChild (take n ps) link)
-    → (ok && (leb i link || not (eqb (getD ps i d) link))) ≡ allTo (i + 1) (noChild (take n ps) link)
+pub leaf-more : (ps : List ℕ) (n link i d : ℕ) (ok : Bool) → i < n → n ≤ length ps → ok ≡ allBelow i (noChild (take n ps) link)
+    → (ok && (leb i link || not (eqb (getD ps i d) link))) ≡ allBelow (i + 1) (noChild (take n ps) link)
+unfolding allBelow
 leaf-more ps n link i d ok h l e = rw (add-one i, e, getD-take n ps i 0 h, any-default ps i d 0 (omega arith))
 
 other : (a b : Bool) → (a || not b) ≡ true → a ≡ false → b ≡ false

@@ -3,7 +3,7 @@
 use Prim.Native.Nat.{ℕ, _<_}
 use mathlib.Core.Path.{_≡_, refl, sym, ap, subst, _∙_}
 use mathlib.Core.Logic.{_≢_}
-use mathlib.Core.Bool.{Bool, true, false, _&&_}
+use mathlib.Core.Bool.{Bool, true, false, _&&_, true≢false}
 use mathlib.Core.List.{List, map}
 use native.Mathlib.Omega.{arith}
 use native.Mathlib.Decide.{decLt}
@@ -11,6 +11,7 @@ use borrow.Author.Tests.{ltb-true}
 use lib.Dec.{ltb}
 use lib.ListN.{length}
 use lib.Ieee.{Float}
+use Rattle.refusal.proofs.Tests.{both-hold}
 use Rattle.planar.specs.Poses.{finiteRotation}
 use Rattle.masks.specs.Starts.{totalOf, startOf}
 use Rattle.floats.specs.Floats.{allFinite}
@@ -25,12 +26,11 @@ use Rattle.arm.specs.Arm as of-arm
 use Rattle.arm.specs.Edits.{modify, withLinks}
 use Rattle.limits.specs.Limits.{linkLimit}
 use Rattle.arm.specs.HandedIn.{every, unique, tagsUnique, parentsEarlier, linkMasksFit, rootMaskFits, rootFits, linkFinite, rowsFinite, linkAngleFits, armRefusal}
-use Rattle.arm.proofs.Accepted.{both-hold, counts-accepted}
+use Rattle.arm.proofs.Accepted.{counts-accepted}
 use Rattle.kinematics.specs.Blocks.{blockAt}
 use Rattle.kinematics.specs.Link.{finiteKept}
 use Rattle.kinematics.specs.State.{state, noLink, linkAt, parentOf, lockedOf, inputsOf, keptAt, keptOps, marked}
 use Rattle.kinematics.proofs.Pass.{new-same}
-use Rattle.topology.proofs.Small.{differ}
 use Rattle.working.specs.Full.{Settled}
 use Rattle.settled.specs.Above.{aboveFinite}
 use Rattle.kinematics.specs.Promises.{Fresh, Ready}
@@ -124,13 +124,13 @@ module _ (a : Arm) (t : List Float) (sized : Sized a) (settled : Settled a t) (l
       mark-of j h (above (omega arith) (of-mark (by-list.parentOf (parentsOf a) j) (omega arith) (subst (λ (i : ℕ). b i ≡ true) p e)))
 
   not-link : (j : ℕ) → j < n → b j ≡ false → j ≢ link
-  not-link j h e q = absurd (differ (sym (subst (λ (i : ℕ). b i ≡ true) (sym q) (mark-of link (k .there) itself)) ∙ e))
+  not-link j h e q = absurd (true≢false (sym (subst (λ (i : ℕ). b i ≡ true) (sym q) (mark-of link (k .there) itself)) ∙ e))
 
   not-child : (j : ℕ) → j < n → b j ≡ false → parentOf ls j ≢ link
   not-child j h e q = elim (decLt (parentOf ls j) j) [
     | yes l ↦
         let l′ : parentOf ls′ j < j = omega (arith, parent-after j) in
-        absurd (differ (sym (closed j h l′ (subst (λ (i : ℕ). b i ≡ true) (sym (parent-after j ∙ q)) (mark-of link (k .there) itself))) ∙ e))
+        absurd (true≢false (sym (closed j h l′ (subst (λ (i : ℕ). b i ≡ true) (sym (parent-after j ∙ q)) (mark-of link (k .there) itself))) ∙ e))
     | no l ↦
         let own : parentOf ls j ≡ j = omega (arith, parent-le a (sized .links) (facts-of .few) (facts-of .ok .parents) j h) in
         not-link j h e (sym own ∙ q)

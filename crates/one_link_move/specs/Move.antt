@@ -8,6 +8,7 @@ use lib.Ieee.{Float}
 use Rattle.refusal.specs.Refusal.{unlessOf, lowest}
 use Rattle.floats.specs.Floats.{isFinite}
 use Rattle.masks.specs.Masks.{isAxis, isFree}
+use Rattle.topology.specs.Tables.{allBelow}
 use Rattle.planar.specs.Rotation.{isBeyond}
 use Rattle.planar.specs.Poses.{rotationOf, isTurn, finitePoint, finitePose}
 use Rattle.topology.specs.Parents.{parentOf, marks}
@@ -17,7 +18,6 @@ use Rattle.arm.specs.declared.Link.{Link}
 use Rattle.arm.specs.Arm.{parentsOf, maskAt}
 use Rattle.arm.specs.Edits.{withLinks}
 use Rattle.arm.specs.HandedIn.{armRefusal}
-use Rattle.kinematics.specs.Pass.{allTo}
 use Rattle.kinematics.specs.State.{marked}
 use Rattle.working.specs.Outcome.{Outcome, unlessRefused, tablesFit, workedMarked}
 use Rattle.settled.specs.Above.{aboveFinite}
@@ -89,7 +89,7 @@ noChild ps link j = leb j link || not (eqb (parentOf ps j) link)
 
 -- no link is below it
 abbrev pub leaf : List ℕ → ℕ → Bool
-leaf ps link = allTo (length ps) (noChild ps link)
+leaf ps link = allBelow (length ps) (noChild ps link)
 
 -- a refusal or 0, and the arm with these links
 abbrev pub answered : ℕ → Arm → List Link → Edited

@@ -1,5 +1,5 @@
 -- The places that the code reads off the map are those of the split rule, on every link and coupling that counts. Assumes nothing.
-use Prim.Native.Nat.{ℕ, min, _+_, _*_, _≤_, _<_}
+use Prim.Native.Nat.{ℕ, min, _*_, _≤_, _<_}
 use mathlib.Core.Path.{_≡_, sym, ap, subst, _∙_}
 use mathlib.Core.Bool.{true, false}
 use mathlib.Core.List.{List, _++_}
@@ -8,6 +8,7 @@ use borrow.Author.Tests.{ltb-true}
 use lib.ListN.{length, take}
 use lib.Seq.{getD-take, length-take-le}
 use Rattle.limits.specs.Limits.{linkLimit, couplingLimit}
+use Rattle.refusal.proofs.Tests.{both-hold}
 use Rattle.topology.specs.declared.Split.{Split}
 use Rattle.topology.specs.Parents.{parentOf}
 use Rattle.topology.specs.Split.{isHead, partCount, isIn, splitMap}
@@ -17,7 +18,6 @@ use Rattle.arm.specs.Arm.{liveLinks, linksOf, couplingsOf, parentsOf}
 use Rattle.arm.specs.Arm as arm-specs
 use Rattle.arm.specs.HandedIn.{couplingLinksFit, parentsEarlier, couplingsLinksFit, armRefusal}
 use Rattle.arm.proofs.Lists.{map-at}
-use Rattle.arm.proofs.Accepted.{both-hold}
 use Rattle.kinematics.specs.State.{linkAt, noLink}
 use Rattle.part_arm.specs.Places.{placesOf, placesIn}
 use Rattle.part_arm.specs.Part.{noCoupling, couplingAt, partArm}

@@ -8,12 +8,12 @@ use borrow.Author.Tests.{eqb-true, eq-eqb, ne-eqb}
 use lib.Dec.{eqb}
 use lib.ListN.{length, List·getD-append}
 use Rattle.limits.specs.Limits.{linkLimit}
+use Rattle.refusal.proofs.Tests.{both-hold}
 use Rattle.topology.specs.declared.Split.{Split}
 use Rattle.topology.specs.Tables.{oneMore, countBelow}
 use Rattle.topology.specs.Parents.{parentOf, parentsFit}
 use Rattle.topology.specs.Split.{survives, isHead, rank, partCount, nearestHead, partOf, isIn, numberOf, gone, partByte, numberByte, splitMap}
 use Rattle.topology.specs.Words.{Survivor}
-use Rattle.topology.proofs.Small.{and-left, and-right}
 use Rattle.topology.proofs.Tables.{count-le, count-lt}
 use Rattle.topology.proofs.Fitting.{earlier}
 use Rattle.topology.proofs.Pass.{part-head}
@@ -35,11 +35,11 @@ none-below (suc n) test h = go (test n) refl (none-below n test (λ j l. h j (om
 module _ (ps : List ℕ) (s : Split) (fit : parentsFit ps ≡ true) where
   pub in-survives : (q j : ℕ) → isIn ps s q j ≡ true → survives s j ≡ true
   unfolding isIn
-  in-survives q j e = and-left (survives s j) _ e
+  in-survives q j e = both-hold (survives s j) _ e .0
 
   pub in-part : (q j : ℕ) → isIn ps s q j ≡ true → partOf ps s j ≡ q
   unfolding isIn
-  in-part q j e = eqb-true (partOf ps s j) q (and-right (survives s j) _ e)
+  in-part q j e = eqb-true (partOf ps s j) q (both-hold (survives s j) _ e .1)
 
   pub is-in : (j : ℕ) → survives s j ≡ true → isIn ps s (partOf ps s j) j ≡ true
   unfolding isIn

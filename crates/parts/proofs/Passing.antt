@@ -1,6 +1,6 @@
 -- A part of an accepted arm passes every test of an arm handed in: its first link is a head, every other one's parent is earlier, and what is kept passed
 -- before. Assumes nothing.
-use Prim.Native.Nat.{ℕ, zero, suc, min, _+_, _≤_, _<_}
+use Prim.Native.Nat.{ℕ, zero, suc, min, _≤_, _<_}
 use mathlib.Core.Path.{_≡_, refl, sym, ap, ap₂, _∙_}
 use mathlib.Core.Bool.{Bool, true, false, cond, _&&_}
 use mathlib.Core.List.{List, [], _∷_, _++_, map}
@@ -11,6 +11,7 @@ use lib.ListN.{length, take, drop, getD, replicate, length-map}
 use lib.Seq.{take-at, getD-take, length-take-le}
 use lib.Ieee.{Float, lt, ofBits}
 use Rattle.limits.specs.Limits.{linkLimit, couplingLimit, dofLimit}
+use Rattle.refusal.proofs.Tests.{both-hold, both}
 use Rattle.floats.specs.Floats.{zero32, isFinite, allFinite}
 use Rattle.masks.specs.Masks.{dofsOf}
 use Rattle.masks.specs.Starts.{totalOf, startOf}
@@ -19,7 +20,7 @@ use Rattle.topology.specs.declared.Split.{Split}
 use Rattle.topology.specs.Tables.{each, countBelow}
 use Rattle.topology.specs.Parents.{parentOf, parentFits, parentsFit}
 use Rattle.topology.specs.Split.{isHead, isIn, numberOf}
-use Rattle.topology.proofs.Tables.{count-lt, count-at}
+use Rattle.topology.proofs.Tables.{count-lt, count-at, all-below}
 use Rattle.topology.proofs.Theorems.{with-parent}
 use Rattle.planar.specs.declared.Pose.{Pose}
 use Rattle.planar.specs.Rotation.{isBeyond}
@@ -32,13 +33,12 @@ use Rattle.arm.specs.declared.Arm.{Arm}
 use Rattle.arm.specs.Arm.{liveLinks, linksOf, couplingsOf, tagOf, lockedOf, tagsOf, parentsOf, masksOf, maskAt, startAt, dofCountOf, entriesTo, rowsOf}
 use Rattle.arm.specs.Arm as arm-specs
 use Rattle.arm.specs.HandedIn.{every, unique, tagsUnique, parentsEarlier, couplingLinksFit, jointMasksFit, linkMasksFit, rootMaskFits, rootFits, couplingAxesFit, jointFinite, linkFinite, couplingFinite, rowsFinite, angleFits, linkAngleFits, armRefusal}
-use Rattle.arm.proofs.Accepted.{both-hold}
 use Rattle.arm.proofs.Lists.{map-at}
 use Rattle.arm.proofs.Live.{links-live, masks-live}
 use Rattle.kinematics.specs.State.{linkAt, noLink}
 use Rattle.kinematics.proofs.Blocks.{take-drop-take}
 use Rattle.working.specs.Empty.{blankRow}
-use Rattle.working.proofs.Tests.{Passes, passes, not-refused, both, each-passes, link-passes}
+use Rattle.working.proofs.Tests.{Passes, passes, not-refused, each-passes, link-passes}
 use Rattle.part_arm.specs.Gathered.{gathered, chosen, laidOver}
 use Rattle.part_arm.specs.Places.{Places, placesOf, goesOn}
 use Rattle.part_arm.specs.Part.{newLink, partLinks, ownEntries, partEntries, partRow, noCoupling, couplingAt, couplingStays, newCoupling, partCouplings, partArm}
@@ -48,7 +48,7 @@ use Rattle.parts.proofs.Heads.{in-survives, in-part, head-first, first-
 use Rattle.parts.proofs.Same.{gathered-same}
 use Rattle.parts.proofs.Refused.{parents-live, Whole, accepted-whole}
 use Rattle.parts.proofs.Chosen.{link-parent, coupling-links}
-use Rattle.parts.proofs.Picked.{all-below, every-chosen, chosen-at, map-chosen, some-unique, is-each}
+use Rattle.parts.proofs.Picked.{every-chosen, chosen-at, map-chosen, some-unique, is-each}
 
 -- ---- one link, one coupling
 

@@ -1,5 +1,5 @@
 -- Lists chosen from the first n: what holds of each chosen one, where each stands, and that what differs still differs. Assumes nothing.
-use Prim.Native.Nat.{ℕ, zero, suc, _+_, _<_}
+use Prim.Native.Nat.{ℕ, zero, suc, _<_}
 use mathlib.Core.Path.{_≡_, refl, sym, ap, ap₂, subst, _∙_}
 use mathlib.Core.Bool.{Bool, true, false, cond}
 use mathlib.Core.List.{List, [], _∷_, _++_, map, map-append, append-nil}
@@ -7,18 +7,12 @@ use native.Mathlib.Omega.{arith}
 use native.Mathlib.Decide.{decLt}
 use lib.ListN.{length, getD, List·getD-append}
 use lib.Seq.{getD-at, ext-getD}
-use Rattle.topology.specs.Tables.{each, allBelow, countBelow}
+use Rattle.refusal.proofs.Tests.{both-hold, both}
+use Rattle.topology.specs.Tables.{each, countBelow}
 use Rattle.topology.proofs.Tables.{count-lt, length-each, getD-each}
 use Rattle.arm.specs.HandedIn.{every, differs, isNew, unique}
-use Rattle.arm.proofs.Accepted.{both-hold}
-use Rattle.working.proofs.Tests.{both}
 use Rattle.part_arm.specs.Gathered.{gathered, chosen}
 use Rattle.part_arm.proofs.Laid.{length-chosen}
-
-pub all-below : (n : ℕ) (test : ℕ → Bool) → ((j : ℕ) → j < n → test j ≡ true) → allBelow n test ≡ true
-unfolding allBelow
-all-below zero test h = refl
-all-below (suc n) test h = both (all-below n test (λ j l. h j (omega arith))) (h n (omega arith))
 
 -- ---- every, of lists joined
 

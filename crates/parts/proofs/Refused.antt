@@ -1,5 +1,5 @@
 -- The refusals: the bare list's own, an arm that breaks rule 4 or an earlier one being refused by no more than 4 in any case. Assumes nothing.
-use Prim.Native.Nat.{ℕ, zero, suc, min, _+_, _*_, _/_, _≤_, _<_}
+use Prim.Native.Nat.{ℕ, zero, suc, min, _*_, _/_, _≤_, _<_}
 use mathlib.Core.Path.{_≡_, refl, sym, ap, _∙_}
 use mathlib.Core.Bool.{Bool, true, false, _&&_, and-true}
 use mathlib.Core.Logic.{_⊎_, inl, inr}

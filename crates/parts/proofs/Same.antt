@@ -1,12 +1,12 @@
 -- Places that agree on the links that count give the same part. Assumes nothing.
-use Prim.Native.Nat.{ℕ, zero, suc, min, _+_, _<_}
+use Prim.Native.Nat.{ℕ, zero, suc, min, _<_}
 use mathlib.Core.Path.{_≡_, refl, ap, ap₂}
 use mathlib.Core.Bool.{Bool, true, false, cond, not, _&&_}
 use mathlib.Core.List.{List, [], _∷_, _++_, map}
 use native.Mathlib.Omega.{arith}
 use lib.Ieee.{Float}
 use Rattle.limits.specs.Limits.{couplingLimit}
-use Rattle.topology.proofs.Small.{and-left, and-right}
+use Rattle.refusal.proofs.Tests.{both-hold}
 use Rattle.arm.specs.declared.Link.{Link}
 use Rattle.arm.specs.declared.Coupling.{Coupling}
 use Rattle.arm.specs.declared.Row.{Row}
@@ -77,7 +77,7 @@ module _ (a : Arm) (p q : Places) (same : Agree a p q) where
 
     both-here : couplingStays q (couplingAt a i) ≡ true → (q .here (couplingAt a i .link1) ≡ true) × (q .here (couplingAt a i .link2) ≡ true)
     unfolding couplingStays
-    both-here e = (and-left _ _ (and-left _ _ e), and-left _ _ (and-right (goesOn q (couplingAt a i .link1)) _ e))
+    both-here e = let h = both-hold (goesOn q (couplingAt a i .link1)) _ e in (both-hold _ _ (h .0) .0, both-hold _ _ (h .1) .0)
 
     coupling-same : couplingStays q (couplingAt a i) ≡ true → newCoupling (p .number) (couplingAt a i) ≡ newCoupling (q .number) (couplingAt a i)
     unfolding newCoupling

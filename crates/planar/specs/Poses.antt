@@ -1,6 +1,6 @@
 -- Poses, by document 01's 'Poses': each result in f32, in the order of operations that stands there.
 use mathlib.Core.Bool.{Bool, _&&_}
-use lib.Ieee.{Float, neg, le}
+use lib.Ieee.{neg, le}
 use Rattle.floats.specs.Floats.{f32, zero32, one32, isFinite, plus, minus, times}
 use Rattle.planar.specs.declared.Rotation.{Rotation}
 use Rattle.planar.specs.declared.Point.{Point}

@@ -1,6 +1,6 @@
 -- The rotation of an angle, by document 01's 'Rotation'. Each constant stands by its f32 bits, each sum and product in its order.
 use Prim.Native.Nat.{ℕ, zero, suc, _+_, _-_, _*_, _%_}
-use mathlib.Core.Bool.{Bool, true, false, cond, not, _||_}
+use mathlib.Core.Bool.{Bool, cond, not, _||_}
 use mathlib.Core.List.{[], _∷_}
 use lib.IntN.{pos}
 use lib.Ieee.{Float, binary32, ofInt, neg, lt, le}

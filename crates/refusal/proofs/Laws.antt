@@ -1,5 +1,5 @@
 -- `lowest` is the lowest: none where every one is none, else one of the list that no other undercuts. By the list's length.
-use Prim.Native.Nat.{ℕ, zero, suc, min, _-_, _≤_, _<_}
+use Prim.Native.Nat.{ℕ, zero, suc, _-_, _≤_, _<_}
 use mathlib.Core.Path.{_≡_, refl, sym, subst, _∙_}
 use mathlib.Core.Logic.{_⊎_, inl, inr}
 use mathlib.Core.List.{List, [], _∷_}

@@ -2,7 +2,7 @@
 -- +0; so the new arm is one that the full working takes. Assumes nothing.
 use Prim.Native.Nat.{ℕ, zero, suc, _+_, _-_, _≤_, _<_}
 use mathlib.Core.Path.{_≡_, refl, sym, ap, ap₂, _∙_, subst}
-use mathlib.Core.Bool.{Bool, true, false, cond, _&&_, _||_}
+use mathlib.Core.Bool.{Bool, true, false, cond, _&&_, _||_, true≢false}
 use mathlib.Core.Logic.{_⊎_, inl, inr}
 use mathlib.Core.List.{List, [], _∷_, _++_, map}
 use native.Mathlib.Omega.{arith}
@@ -14,6 +14,7 @@ use lib.Ieee.{Float, nan, ofBits, lt}
 use Rattle.limits.specs.Limits.{linkLimit, dofLimit}
 use Rattle.refusal.specs.Refusal.{unlessOf}
 use Rattle.refusal.proofs.Laws.{is-lowest}
+use Rattle.refusal.proofs.Tests.{both-hold, both}
 use Rattle.floats.specs.Floats.{zero32, isFinite, allFinite}
 use Rattle.masks.specs.Masks.{bitOf, isFree, dofsBelow, dofsOf}
 use Rattle.masks.specs.Starts.{totalOf}
@@ -28,13 +29,11 @@ use Rattle.arm.specs.declared.Arm.{Arm}
 use Rattle.arm.specs.Arm.{liveLinks, linksOf, couplingsOf, tagOf, parentOf, lockedOf, masksOf, dofCountOf, entriesTo, rowsOf}
 use Rattle.arm.specs.Edits.{modify}
 use Rattle.arm.specs.HandedIn.{every, tagsUnique, linkNumbersFit, jointMasksFit, linkMasksFit, rootMaskFits, rootFits, couplingAxesFit, masksAndAxesFit, jointFinite, linkFinite, couplingFinite, rowsFinite, floatsFinite, angleFits, linkAngleFits, anglesFit, armRefusal}
-use Rattle.arm.proofs.Accepted.{both-hold}
 use Rattle.arm.proofs.Every.{every-map}
 use Rattle.arm.proofs.Live.{dof-count-le}
 use Rattle.kinematics.specs.State.{linkAt}
-use Rattle.topology.proofs.Small.{differ}
 use Rattle.working.specs.Outcome.{tablesFit}
-use Rattle.working.proofs.Tests.{Passes, both, holds-in, passes, not-refused, link-passes, links-pass, each-passes, all-pass, tags-stay, numbers-stay}
+use Rattle.working.proofs.Tests.{Passes, holds-in, passes, not-refused, link-passes, links-pass, each-passes, all-pass, tags-stay, numbers-stay}
 use Rattle.working.proofs.Again.{call-settles, call-keeps, call-joint}
 use Rattle.root_change.specs.Root.{isRootMask, withFrame1, rootJoint, rootLink, widened, narrowed, rootRow, rootMask, rootRows, rootChanged, rootRefusal, changedRoot}
 use Rattle.root_change.specs.Promises.{RootSettles, RootKeeps}
@@ -75,7 +74,7 @@ kinds locked k = go (eqb locked 7) refl (eqb locked 0) refl k
     go : (b : Bool) → eqb locked 7 ≡ b → (c : Bool) → eqb locked 0 ≡ c → (b || c) ≡ true → (locked ≡ 7) ⊎ (locked ≡ 0)
     go true e c f h = inl (eqb-true locked 7 e)
     go false e true f h = inr (eqb-true locked 0 f)
-    go false e false f h = absurd (differ (sym h))
+    go false e false f h = absurd (true≢false (sym h))
 
 pub root-locked : (locked : ℕ) (p : Pose) (j : Joint) → Kind locked → rootJoint locked p j .locked ≡ locked
 unfolding rootJoint freePosSet withFrame1 freeJoint fixedJoint
@@ -86,7 +85,7 @@ root-locked locked p j k = go (eqb (j .locked) locked) refl (eqb locked 0) refl
     go true e true h = eqb-true (j .locked) locked e
     go true e false h = eqb-true (j .locked) locked e
     go false e true h = sym (eqb-true locked 0 h)
-    go false e false h = elim (kinds locked k) [ inl s ↦ sym s | inr z ↦ absurd (differ (sym (eq-eqb locked 0 z) ∙ h)) ]
+    go false e false h = elim (kinds locked k) [ inl s ↦ sym s | inr z ↦ absurd (true≢false (sym (eq-eqb locked 0 z) ∙ h)) ]
 
 module _ (locked : ℕ) (p : Pose) (j : Joint) where
   masks-fit : jointMasksFit j ≡ true → jointMasksFit (rootJoint locked p j) ≡ true

@@ -1,6 +1,6 @@
 -- A whole run prints what the definition says of its text, however that came in pieces and however often the buffer was emptied. Assumes that every
 -- answer has room: at most 32,768 bytes.
-use Prim.Native.Nat.{ℕ, _+_, _≤_}
+use Prim.Native.Nat.{ℕ, _≤_}
 use mathlib.Core.Path.{_≡_, refl, sym, ap, _∙_}
 use mathlib.Core.Bool.{true}
 use mathlib.Core.List.{List, [], _∷_, _++_}
@@ -11,7 +11,7 @@ use Rattle.script_write.specs.Writing.{Written, written}
 use Rattle.script_answer.specs.Text.{Text}
 use Rattle.script_run.specs.Played.{Session}
 use Rattle.script_run.specs.Run.{Stand, stand}
-use Rattle.script_run.specs.Told.{Told, allBytes, behindAnswers, firstSession, replayed, tell, told}
+use Rattle.script_run.specs.Told.{Told, allBytes, behindAnswers, firstSession, replayed, tell}
 use Rattle.script_run.specs.Pieces.{Holds, Prints, allFit, aCall, call, firstStand, joined, nextPiece, nothingMore, soFar}
 use Rattle.script_run.proofs.Held.{holds-none}
 use Rattle.script_run.proofs.Telling.{behind-both, tell-both}

@@ -14,7 +14,7 @@ use Rattle.script_words.specs.Lines.{newline}
 use Rattle.script_run.specs.Played.{linePlayed, lineTaken}
 use Rattle.script_run.specs.Begun.{lineEnded}
 use Rattle.script_run.specs.Run.{Stand, goesOn, hasRoom, heldTurn, lineTurn, pieceAfter, turn, turns}
-use Rattle.script_run.specs.Told.{behindAnswers, tell, told}
+use Rattle.script_run.specs.Told.{behindAnswers, tell}
 use Rattle.script_run.specs.Pieces.{Holds, Through, soFar}
 use Rattle.script_run.proofs.Held.{ended-length, holds-more, holds-none, line-ended}
 use Rattle.script_run.proofs.Telling.{behind-both, tell-line, tell-rest}

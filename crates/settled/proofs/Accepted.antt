@@ -2,10 +2,10 @@
 use mathlib.Core.Path.{_≡_}
 use mathlib.Core.Bool.{true}
 use Rattle.refusal.specs.Refusal.{lowerOf}
+use Rattle.refusal.proofs.Tests.{both-hold}
 use Rattle.arm.specs.declared.Arm.{Arm}
 use Rattle.arm.specs.Arm.{linksOf, couplingsOf}
 use Rattle.arm.specs.HandedIn.{every, countsFit, tagsUnique, parentsEarlier, couplingsLinksFit, linkNumbersFit, linkMasksFit, rootFits, couplingAxesFit, masksAndAxesFit, linkFinite, couplingFinite, rowsFinite, floatsFinite, anglesFit, armEntries, armRefusal}
-use Rattle.arm.proofs.Accepted.{both-hold}
 use Rattle.settled.proofs.Lowest.{none-of, holds}
 
 pub record Accepted (a : Arm) : Type 0 where

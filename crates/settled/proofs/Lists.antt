@@ -5,8 +5,8 @@ use mathlib.Core.Bool.{Bool, true, _&&_}
 use mathlib.Core.List.{List, [], _∷_, _++_, map}
 use native.Mathlib.Omega.{arith}
 use lib.ListN.{length, take, getD}
+use Rattle.refusal.proofs.Tests.{both-hold}
 use Rattle.arm.specs.HandedIn.{every}
-use Rattle.arm.proofs.Accepted.{both-hold}
 use Rattle.arm.proofs.Every.{every-map}
 use Rattle.arm.proofs.Lists.{map-take}
 

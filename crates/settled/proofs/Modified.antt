@@ -7,9 +7,9 @@ use mathlib.Core.List.{List, [], _∷_}
 use native.Mathlib.Omega.{arith}
 use lib.ListN.{length, take, getD}
 use lib.Seq.{take-all}
+use Rattle.refusal.proofs.Tests.{both-hold}
 use Rattle.arm.specs.Edits.{modify}
 use Rattle.arm.specs.HandedIn.{every}
-use Rattle.arm.proofs.Accepted.{both-hold}
 use Rattle.settled.proofs.Lists.{both}
 
 module _ {A : Type 0} (f : A → A) where

@@ -4,6 +4,7 @@ use mathlib.Core.Path.{_≡_, refl, sym, ap, _∙_}
 use mathlib.Core.Bool.{Bool, true, _&&_}
 use mathlib.Core.List.{List, map}
 use lib.ListN.{length}
+use Rattle.refusal.proofs.Tests.{both-hold}
 use Rattle.masks.specs.Starts.{totalOf}
 use Rattle.planar.specs.Poses.{finitePoint}
 use Rattle.topology.specs.Parents.{parentsFit}
@@ -12,7 +13,6 @@ use Rattle.arm.specs.declared.Arm.{Arm}
 use Rattle.arm.specs.Arm.{liveLinks, linksOf, couplingsOf, tagOf, parentOf, lockedOf, tagsOf, parentsOf, masksOf, dofCountOf, entriesTo, rowsOf}
 use Rattle.arm.specs.Edits.{withLinks}
 use Rattle.arm.specs.HandedIn.{every, unique, tagsUnique, parentsEarlier, linkMasksFit, rootMaskFits, rootFits, jointFinite, linkFinite, rowsFinite, linkAngleFits}
-use Rattle.arm.proofs.Accepted.{both-hold}
 use Rattle.floats.specs.Floats.{allFinite}
 use Rattle.kinematics.specs.Link.{finitePlace, withPlace}
 use Rattle.kinematics.specs.State.{noLink, linkAt}

@@ -11,24 +11,24 @@ use lib.Seq.{getD-take, length-take-le}
 use lib.Ieee.{Float}
 use Rattle.limits.specs.Limits.{linkLimit, blockSize, tableSize}
 use Rattle.refusal.specs.Refusal.{lowerOf}
+use Rattle.refusal.proofs.Tests.{both-hold}
 use Rattle.floats.specs.Floats.{zero32}
 use Rattle.masks.specs.Starts.{startOf}
+use Rattle.topology.proofs.Tables.{all-at, all-below}
 use Rattle.arm.specs.declared.Link.{Link}
 use Rattle.arm.specs.declared.Arm.{Arm}
 use Rattle.arm.specs.Arm.{liveLinks, linksOf}
 use Rattle.arm.specs.Edits.{withLinks}
 use Rattle.arm.specs.HandedIn.{linkFinite, armRefusal}
 use Rattle.arm.specs.HandedIn as tests
-use Rattle.arm.proofs.Accepted.{both-hold}
 use Rattle.kinematics.specs.Blocks.{blockAt, zeroBlock}
 use Rattle.kinematics.specs.Link.{finitePlace, finiteKept, withPlace}
-use Rattle.kinematics.specs.Pass.{allTo}
 use Rattle.kinematics.specs.State.{State, state, noLink, linkAt, parentOf, lockedOf, inputsOf, keptAt, keptOps, every, resultOf, stateAfter, fineAfter, cleared}
 use Rattle.kinematics.specs.Answers.{passed, refreshMarked, refreshAll}
-use Rattle.kinematics.proofs.Small.{all-at}
-use Rattle.kinematics.proofs.Pass.{new-same, run-view}
+use Rattle.kinematics.proofs.Pass.{new-same}
 use Rattle.kinematics.proofs.Store.{Good, blank, after-blank}
 use Rattle.kinematics.proofs.Blocks.{block-front}
+use Rattle.kinematics.specs.Pass.{run}
 use Rattle.working.specs.Outcome.{Outcome, out, says, unlessRefused, tablesFit, workedBy, workedAll, workedMarked}
 use Rattle.working.specs.Full.{fullRefusal, fullWorking, Settled}
 use Rattle.kinematics.specs.Promises.{Fresh, Fits, Ready}
@@ -81,20 +81,17 @@ full-is a t long e = rw (le-leb tableSize (length t) long, e)
 -- ---- what the full working leaves is settled
 
 -- a pass over no links
-no-links : ℕ → Bool
-no-links j = false
+abbrev pub nowhere : ℕ → Bool
+nowhere j = false
 
-none-state : (ls : List Link) (n : ℕ) (t : List Float) → stateAfter ls n no-links t ≡ state ls t
-unfolding stateAfter no-links
-none-state ls n t = run-view keptOps (parentOf ls) (inputsOf ls) (λ s. s) (state ls t) no-links (λ s k o e. let z : _≡_ {A = ℕ} 0 1 = cc in absurd (omega arith)) n
+pub left-alone : (ls : List Link) (n : ℕ) (t : List Float) → stateAfter ls n nowhere t ≡ state ls t
+unfolding stateAfter run
+left-alone ls zero t = refl
+left-alone ls (suc n) t = left-alone ls n t
 
-none-fine : (ls : List Link) (n : ℕ) (t : List Float) → fineAfter ls n no-links t ≡ true
-unfolding fineAfter no-links
-none-fine ls n t = go n
-  where
-    go : (m : ℕ) → allTo m (λ j. true) ≡ true
-    go zero = refl
-    go (suc m) = rw (go m)
+pub untested : (ls : List Link) (n : ℕ) (t : List Float) → fineAfter ls n nowhere t ≡ true
+unfolding fineAfter
+untested ls n t = all-below n _ (λ j h. refl)
 
 pub cleared-long : (t : List Float) → tableSize ≤ length (cleared t)
 cleared-long t = omega (arith, length-append (replicate tableSize zero32) (drop tableSize t), length-replicate tableSize zero32)
@@ -167,8 +164,7 @@ module _ (a : Arm) (sized : length (a .links) ≡ linkLimit) (t : List Float) (f
     fits-after : Fits (s .links) n (s .tables)
     fits-after = record { places = good .0; few = few; long = good .1 }
 
-    ready : Ready (s .links) n no-links (s .tables)
-    unfolding no-links
+    ready : Ready (s .links) n nowhere (s .tables)
     ready = record {
       closed = λ j h q e. e;
       fresh = λ j h e. fresh j h;
@@ -179,10 +175,10 @@ module _ (a : Arm) (sized : length (a .links) ≡ linkLimit) (t : List Float) (f
     pub settles : Settled (withLinks a (s .links)) (s .tables)
     settles =
         let a′ = withLinks a (s .links) in
-        let like = like-full (s .links) n no-links (s .tables) fits-after ready in
+        let like = like-full (s .links) n nowhere (s .tables) fits-after ready in
         full-is a′ (s .tables) (good .1) (not-refused a′ ok-after)
         ∙ worked-all a′ a′ (s .tables) few (good .1)
-        ∙ ap₂ (λ (y : Bool) (x : State). workedTo y a′ a′ x (s .tables)) (sym (sym (none-fine (s .links) n (s .tables)) ∙ like .1)) (sym (like .0) ∙ none-state (s .links) n (s .tables))
+        ∙ ap₂ (λ (y : Bool) (x : State). workedTo y a′ a′ x (s .tables)) (sym (sym (untested (s .links) n (s .tables)) ∙ like .1)) (sym (like .0) ∙ left-alone (s .links) n (s .tables))
 
 -- ---- what a settled arm keeps
 

@@ -8,6 +8,7 @@ use lib.Dec.{eqb, ltb}
 use lib.ListN.{length}
 use lib.Ieee.{Float, nan, inf, fin, unlike, add, sub, neg, mul}
 use Rattle.limits.specs.Limits.{linkLimit}
+use Rattle.refusal.proofs.Tests.{both-hold}
 use Rattle.floats.specs.Floats.{isFinite, minus, times}
 use Rattle.planar.specs.declared.Rotation.{Rotation}
 use Rattle.planar.specs.declared.Pose.{Pose}
@@ -15,7 +16,6 @@ use Rattle.planar.specs.Poses.{rotationOf, posed, rotationProduct, poseProduct,
 use Rattle.multibody_joint.specs.declared.Joint.{Joint}
 use Rattle.multibody_joint.specs.Joint.{slidPose, bodyToParent}
 use Rattle.arm.specs.declared.Arm.{Arm}
-use Rattle.arm.proofs.Accepted.{both-hold}
 use Rattle.kinematics.specs.Link.{Kept, Inputs, rootPosed, laterPosed, keptOf, rootKept, laterKept, finitePlace, finiteKept}
 use Rattle.kinematics.specs.State.{linkAt, parentOf, inputsOf, keptAt, cleared}
 use Rattle.kinematics.specs.Promises.{Fits}

@@ -1,20 +1,20 @@
 -- Parts in one rising pass: a head's part is its rank, any other survivor's is its parent's, which survives too. By the link's number.
 use Prim.Native.Nat.{ℕ, zero, suc, _+_, _≤_, _<_}
 use mathlib.Core.Path.{_≡_, refl, sym, _∙_}
-use mathlib.Core.Bool.{Bool, true, false, not, _||_}
+use mathlib.Core.Bool.{Bool, true, false, not, _||_, true≢false}
 use mathlib.Core.List.{List}
 use native.Mathlib.Omega.{arith}
 use native.Mathlib.Numerals.{add-one}
 use native.Mathlib.Decide.{decLt}
 use lib.ListN.{length, take, getD, set}
 use lib.Dec.{eqb}
+use Rattle.refusal.proofs.Tests.{both-hold}
 use Rattle.topology.specs.declared.Split.{Split}
 use Rattle.topology.specs.declared.Split.the-variants.{Delete, Cut}
 use Rattle.topology.specs.Tables.{each, countBelow, lastThat}
 use Rattle.topology.specs.Parents.{parentOf, parentsFit}
 use Rattle.topology.specs.Split.{survives, headOf, isHead, rank, partCount, nearestHead, partOf, gone, partByte}
 use Rattle.topology.specs.Words.{Survivor}
-use Rattle.topology.proofs.Small.{differ, or-right, and-left}
 use Rattle.topology.proofs.Tables.{Filled, filled-none, filled-more, filled-at, count-le, count-lt, last-snoc}
 use Rattle.topology.proofs.Fitting.{earlier}
 use Rattle.topology.proofs.Branch.{branch-alone, branch-more}
@@ -23,10 +23,14 @@ use Rattle.topology.proofs.Branch.{branch-alone, branch-more}
 
 -- a survivor that is no head is a later link
 body-later : (s : Split) (j p : ℕ) → survives s j ≡ true → headOf s j p ≡ false → 0 < j
-body-later (Delete k) zero p a h = absurd (differ (rw a at h))
+body-later (Delete k) zero p a h = absurd (true≢false (rw a at h))
 body-later (Delete k) (suc j) p a h = omega arith
-body-later (Cut k) zero p a h = absurd (differ h)
+body-later (Cut k) zero p a h = absurd (true≢false h)
 body-later (Cut k) (suc j) p a h = omega arith
+
+or-right : (a b : Bool) → (a || b) ≡ false → b ≡ false
+or-right true b h = absurd (true≢false h)
+or-right false b h = h
 
 -- and its parent survives
 body-parent : (s : Split) (j p : ℕ) → survives s j ≡ true → headOf s j p ≡ false → survives s p ≡ true
@@ -37,7 +41,7 @@ body-parent (Cut k) j p a h = refl
 
 -- a head survives
 pub head-survives : (s : Split) (j p : ℕ) → headOf s j p ≡ true → survives s j ≡ true
-head-survives (Delete k) j p h = and-left (not (eqb j k)) _ h
+head-survives (Delete k) j p h = both-hold (not (eqb j k)) _ h .0
 head-survives (Cut k) j p h = refl
 
 module _ (ps : List ℕ) (s : Split) where

@@ -10,7 +10,7 @@ use borrow.Author.Tests.{leb-true, ltb-true, le-leb, lt-leb}
 use lib.ListN.{length, drop}
 use lib.Dec.{leb, ltb}
 use Rattle.limits.specs.Limits.{linkLimit}
-use Rattle.refusal.specs.Refusal.{unlessOf, lowest}
+use Rattle.refusal.specs.Refusal.{unlessOf}
 use Rattle.refusal.proofs.Laws.{is-lowest}
 use Rattle.topology.specs.declared.Split.{Split}
 use Rattle.topology.specs.Parents.{parentsFit, branch}

@@ -1,7 +1,7 @@
 -- Laws of tables, tests and counts over the first n numbers, and of lists that grow at their end. By the count, or the list.
 use Prim.Native.Nat.{ℕ, zero, suc, _+_, _-_, _≤_, _<_}
-use mathlib.Core.Path.{_≡_, refl, sym, ap, subst, _∙_}
-use mathlib.Core.Bool.{Bool, true, false, cond, _||_, or-false, or-assoc}
+use mathlib.Core.Path.{_≡_, refl, sym, ap, ap₂, subst, _∙_}
+use mathlib.Core.Bool.{Bool, true, false, cond, _&&_, _||_, or-false, or-assoc}
 use mathlib.Core.List.{List, [], _∷_, _++_}
 use native.Mathlib.Omega.{arith}
 use native.Mathlib.Numerals.{add-one}
@@ -9,8 +9,8 @@ use native.Mathlib.Decide.{decLt}
 use lib.ListN.{length, take, drop, getD, set, replicate, length-append, length-set, length-replicate, List·getD-append, getD-replicate}
 use lib.Seq.{take-suc-set, getD-at, drop-set-lt, drop-drop, getD-take, getD-drop, ext-getD}
 use lib.Dec.{eqb}
+use Rattle.refusal.proofs.Tests.{both-hold, both}
 use Rattle.topology.specs.Tables.{each, allBelow, oneMore, countBelow, standsIn, lastThat}
-use Rattle.topology.proofs.Small.{and-left, and-right}
 
 -- ---- tables
 
@@ -73,9 +73,19 @@ pub all-at : (n : ℕ) (test : ℕ → Bool) → allBelow n test ≡ true → (j
 unfolding allBelow
 all-at zero test h j l = absurd (omega arith)
 all-at (suc n) test h j l = elim (decLt j n) [
-  | yes q ↦ all-at n test (and-left _ (test n) h) j q
-  | no q ↦ subst (λ (k : ℕ). test k ≡ true) (omega arith) (and-right (allBelow n test) _ h)
+  | yes q ↦ all-at n test (both-hold _ (test n) h .0) j q
+  | no q ↦ subst (λ (k : ℕ). test k ≡ true) (omega arith) (both-hold (allBelow n test) _ h .1)
 ]
+
+pub all-below : (n : ℕ) (test : ℕ → Bool) → ((j : ℕ) → j < n → test j ≡ true) → allBelow n test ≡ true
+unfolding allBelow
+all-below zero test h = refl
+all-below (suc n) test h = both (all-below n test (λ j l. h j (omega arith))) (h n (omega arith))
+
+pub all-same : (n : ℕ) (f g : ℕ → Bool) → ((j : ℕ) → j < n → f j ≡ g j) → allBelow n f ≡ allBelow n g
+unfolding allBelow
+all-same zero f g h = refl
+all-same (suc n) f g h = ap₂ _&&_ (all-same n f g (λ j l. h j (omega arith))) (h n (omega arith))
 
 -- ---- counts
 

@@ -1,7 +1,7 @@
 -- What a reader wants to know of branches, marks and splits. Each is shown by the links' numbers, as each parent is earlier.
 use Prim.Native.Nat.{ℕ, zero, suc, _+_, _*_, _≤_, _<_}
 use mathlib.Core.Path.{_≡_, refl, sym, _∙_}
-use mathlib.Core.Bool.{Bool, true, false, cond}
+use mathlib.Core.Bool.{Bool, true, false, cond, true≢false}
 use mathlib.Core.Logic.{_↔_}
 use mathlib.Core.List.{List, [], _∷_, _++_, append-nil}
 use native.Mathlib.Nat.{add-zero}
@@ -11,13 +11,13 @@ use borrow.Author.Tests.{eqb-true, eq-eqb}
 use lib.ListN.{length, getD, List·getD-append}
 use lib.Seq.{getD-append-add}
 use Rattle.limits.specs.Limits.{linkLimit}
+use Rattle.refusal.proofs.Tests.{both-hold}
 use Rattle.topology.specs.declared.Split.{Split}
 use Rattle.topology.specs.Tables.{each, oneMore, countBelow}
 use Rattle.topology.specs.Above.{AtOrAbove, itself, above}
 use Rattle.topology.specs.Parents.{parentOf, parentsFit, branch, atOrBelow, marks}
 use Rattle.topology.specs.Split.{survives, isHead, rank, partCount, nearestHead, partOf, isIn, numberOf, partByte, numberByte, splitMap}
 use Rattle.topology.specs.Words.{FromRoot, Nearest, Survivor, RisingPass, WithParent, numbersIn, sizeOf, upTo}
-use Rattle.topology.proofs.Small.{differ, and-right}
 use Rattle.topology.proofs.Tables.{getD-each, count-lt, count-at}
 use Rattle.topology.proofs.Fitting.{earlier}
 use Rattle.topology.proofs.Pass.{head-survives, nearest-self, part-head, later-link, parent-survives, parent-earlier, nearest-parent, part-body, by-parents, part-below}
@@ -56,7 +56,7 @@ module _ (ps : List ℕ) (s : Split) where
 
   in-part : (q j : ℕ) → isIn ps s q j ≡ true → partOf ps s j ≡ q
   unfolding isIn
-  in-part q j h = eqb-true (partOf ps s j) q (and-right (survives s j) _ h)
+  in-part q j h = eqb-true (partOf ps s j) q (both-hold (survives s j) _ h .1)
 
   -- each part's new numbers are 0, 1, 2 .. without gaps
   pub no-gaps : (q n : ℕ) → numbersIn ps s q n ≡ upTo (sizeOf ps s q n)
@@ -96,7 +96,7 @@ module _ (ps : List ℕ) (s : Split) where
 
     -- the head that the definition takes is the nearest at or above
     climb : {g j : ℕ} → AtOrAbove (parentOf ps) g j → isHead ps s g ≡ true → isHead ps s j ≡ false → AtOrAbove (parentOf ps) g (parentOf ps j)
-    climb itself e h = absurd (differ (sym e ∙ h))
+    climb itself e h = absurd (true≢false (sym e ∙ h))
     climb (above l u) e h = u
 
     pub nearest-head : (j : ℕ) → Survivor ps s j → Nearest (parentOf ps) (isHead ps s) (nearestHead ps s j) j

@@ -12,13 +12,13 @@ use lib.Ieee.{Float}
 use Rattle.limits.specs.Limits.{linkLimit, dofLimit}
 use Rattle.refusal.specs.Refusal.{unlessOf, In}
 use Rattle.refusal.proofs.Laws.{is-lowest}
+use Rattle.refusal.proofs.Tests.{both-hold}
 use Rattle.floats.specs.Floats.{allFinite}
 use Rattle.masks.specs.Masks.{isFree}
 use Rattle.arm.specs.declared.Arm.{Arm}
 use Rattle.arm.specs.Arm.{maskAt, dofCountOf, liveLinks}
 use Rattle.arm.specs.Edits.{dofAt}
 use Rattle.arm.specs.HandedIn.{countsFit, armEntries}
-use Rattle.arm.proofs.Accepted.{both-hold}
 use Rattle.arm.proofs.Edits.{dof-within}
 use Rattle.arm.proofs.Live.{dof-count-le}
 use Rattle.unit_multibody_joint.specs.Refusals.{memoryFits, massFinite, rowEntries, rowRefusal}

@@ -12,6 +12,7 @@ use lib.Ieee.{Float}
 use Rattle.limits.specs.Limits.{linkLimit}
 use Rattle.refusal.specs.Refusal.{unlessOf}
 use Rattle.refusal.proofs.Laws.{is-lowest}
+use Rattle.refusal.proofs.Tests.{both-hold, both}
 use Rattle.floats.specs.Floats.{isFinite}
 use Rattle.planar.specs.Poses.{finitePoint, finitePose}
 use Rattle.multibody_joint.specs.declared.Joint.{Joint}
@@ -22,10 +23,9 @@ use Rattle.arm.specs.declared.Link.{Link}
 use Rattle.arm.specs.declared.Arm.{Arm}
 use Rattle.arm.specs.Arm.{liveLinks}
 use Rattle.arm.specs.HandedIn.{jointFinite, linkFinite, anglesFit, armRefusal}
-use Rattle.arm.proofs.Accepted.{both-hold}
 use Rattle.kinematics.specs.State.{noLink, linkAt}
 use Rattle.working.specs.Outcome.{tablesFit}
-use Rattle.working.proofs.Tests.{standing, both, holds-in, passes, not-refused, link-passes, links-pass, still-passes}
+use Rattle.working.proofs.Tests.{standing, holds-in, passes, not-refused, link-passes, links-pass, still-passes}
 use Rattle.working.proofs.Again.{call-settles, call-keeps, call-joint}
 use Rattle.whole_step.specs.Step.{linkIntegrated, linkAfter, linksAfter, velocitiesOf, armAfter, linkJointFinite, jointsFinite, stepRefusal, wholeStep}
 use Rattle.whole_step.specs.Promises.{StepSettles, StepKeeps}

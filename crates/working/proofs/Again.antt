@@ -1,6 +1,6 @@
 -- What the full working leaves, it leaves again: a pass changes no link's inputs, so over what it left every result is as it is. Hence what a call that
 -- ends in the working of an accepted arm leaves is settled. Assumes nothing.
-use Prim.Native.Nat.{ℕ, zero, suc, _+_, _*_, _≤_, _<_}
+use Prim.Native.Nat.{ℕ, zero, suc, _*_, _≤_, _<_}
 use mathlib.Core.Path.{_≡_, refl, sym, ap, ap₂, _∙_, subst}
 use mathlib.Core.Bool.{Bool, true, false, _&&_}
 use mathlib.Core.List.{List, [], _∷_, _++_, map}
@@ -12,7 +12,9 @@ use lib.Seq.{ext-getD, drop-at}
 use lib.Ieee.{Float}
 use Rattle.limits.specs.Limits.{linkLimit, blockSize, tableSize}
 use Rattle.refusal.specs.Refusal.{unlessOf, lowerOf}
+use Rattle.refusal.proofs.Tests.{both-hold, both}
 use Rattle.floats.specs.Floats.{zero32}
+use Rattle.topology.proofs.Tables.{all-at, all-same}
 use Rattle.planar.specs.Poses.{finitePoint, finitePose}
 use Rattle.multibody_joint.specs.declared.Joint.{Joint}
 use Rattle.arm.specs.declared.Link.{Link}
@@ -20,11 +22,10 @@ use Rattle.arm.specs.declared.Arm.{Arm}
 use Rattle.arm.specs.Arm.{liveLinks}
 use Rattle.arm.specs.Edits.{withLinks}
 use Rattle.arm.specs.HandedIn.{jointFinite, linkFinite, linkAngleFits, armRefusal}
-use Rattle.arm.proofs.Accepted.{both-hold, rest-accepted}
+use Rattle.arm.proofs.Accepted.{rest-accepted}
 use Rattle.kinematics.specs.Link.{Kept, finitePlace, finiteKept, withPlace, withKept}
 use Rattle.kinematics.specs.State.{State, state, noLink, linkAt, parentOf, lockedOf, inputsOf, keptAt, keptOps, every, stateAfter, fineAfter, cleared, laid, newBlock}
 use Rattle.kinematics.specs.Answers.{passed, refreshAll}
-use Rattle.kinematics.proofs.Small.{all-at, all-same}
 use Rattle.kinematics.proofs.Pass.{new-same, only, turn-result, beyond, stays-good}
 use Rattle.kinematics.proofs.Laid.{laid-same, laid-length}
 use Rattle.kinematics.proofs.Store.{Good, laws, blank, after-blank}
@@ -33,7 +34,7 @@ use Rattle.kinematics.proofs.Same.{every-fresh, every-tables}
 use Rattle.working.specs.Outcome.{Outcome, says, out, unlessRefused, tablesFit, workedBy, workedAll}
 use Rattle.working.specs.Full.{fullRefusal, fullWorking, Settled}
 use Rattle.working.proofs.Refused.{accepted}
-use Rattle.working.proofs.Tests.{standing, both, passes, not-refused, link-passes, links-pass, still-passes}
+use Rattle.working.proofs.Tests.{standing, passes, not-refused, link-passes, links-pass, still-passes}
 
 -- ---- the full pass
 

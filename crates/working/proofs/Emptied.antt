@@ -1,8 +1,7 @@
 -- The empty arm over tables that are long enough or not. Assumes nothing.
-use mathlib.Core.Path.{_≡_, ap, sym, _∙_}
-use mathlib.Core.Bool.{Bool, true, false, cond}
+use mathlib.Core.Path.{_≡_, sym, _∙_}
+use mathlib.Core.Bool.{Bool, true, false}
 use mathlib.Core.List.{List}
-use lib.Dec.{leb}
 use lib.ListN.{length, replicate, length-replicate}
 use lib.Ieee.{Float}
 use borrow.Author.Tests.{leb-true}

@@ -12,13 +12,14 @@ use lib.Seq.{ext-getD, getD-take, length-take-le}
 use Rattle.limits.specs.Limits.{linkLimit}
 use Rattle.refusal.specs.Refusal.{unlessOf, lowerOf, lowest, In}
 use Rattle.refusal.proofs.Laws.{is-lowest}
+use Rattle.refusal.proofs.Tests.{both-hold, both}
 use Rattle.arm.specs.declared.Link.{Link}
 use Rattle.arm.specs.declared.Row.{Row}
 use Rattle.arm.specs.declared.Arm.{Arm}
 use Rattle.arm.specs.Arm.{liveLinks, linksOf, couplingsOf, tagOf, parentOf, lockedOf, tagsOf, parentsOf, masksOf, dofCountOf, rowsOf}
 use Rattle.arm.specs.Edits.{withLinks}
 use Rattle.arm.specs.HandedIn.{every, unique, countsFit, tagsUnique, parentsEarlier, linkNumbersFit, jointMasksFit, linkMasksFit, rootMaskFits, rootFits, couplingAxesFit, masksAndAxesFit, linkFinite, couplingFinite, rowsFinite, floatsFinite, anglesFit, armEntries, armRefusal}
-use Rattle.arm.proofs.Accepted.{first-holds, both-hold}
+use Rattle.arm.proofs.Accepted.{first-holds}
 use Rattle.arm.proofs.Every.{every-map}
 use Rattle.kinematics.specs.State.{noLink, linkAt}
 
@@ -58,9 +59,6 @@ pub not-refused : (a : Arm) → Passes a → armRefusal a ≡ 0
 unfolding armRefusal armEntries
 not-refused a p =
     none (countsFit a) (tagsUnique a) (linkNumbersFit a) (masksAndAxesFit a) (floatsFinite a) (anglesFit a) (p .counts) (p .tags) (p .numbers) (p .masks) (p .floats) (p .angles)
-
-pub both : {p q : Bool} → p ≡ true → q ≡ true → (p && q) ≡ true
-both {p} {q} e f = rw (e, f)
 
 -- ---- a test of each
 

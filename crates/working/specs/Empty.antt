@@ -1,5 +1,4 @@
 -- The empty arm: no links, no couplings, +0 over the tables.
-use Prim.Native.Nat.{ℕ}
 use mathlib.Core.Bool.{cond}
 use mathlib.Core.List.{List}
 use lib.ListN.{replicate}

@@ -1,7 +1,6 @@
 -- `next_class`: test by test. Assumes nothing.
 use Rattle.answer_classes.specs.Classes.{nextClass}
 use borrow.Author.Tests.{eq-eqb, ne-eqb}
-use borrow.Author.Needs.{needs}
 use Rattle.answer_classes.proofs.next_class.Statement.{statement}
 use Rattle.answer_classes.proofs.next_class.Tie as tie
 

@@ -1,7 +1,6 @@
 -- `rule_of`: test by test. Assumes nothing.
 use Rattle.answer_classes.specs.Classes.{ruleOf}
 use borrow.Author.Tests.{eq-eqb, le-ltb, lt-ltb, ne-eqb}
-use borrow.Author.Needs.{needs}
 use Rattle.answer_classes.proofs.rule_of.Statement.{statement}
 use Rattle.answer_classes.proofs.rule_of.Tie as tie
 

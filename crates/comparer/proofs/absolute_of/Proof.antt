@@ -1,5 +1,4 @@
 -- `absolute_of`: by the sign. Assumes nothing.
-use borrow.Author.Needs.{needs}
 use Rattle.comparer.proofs.absolute_of.Statement.{statement}
 use Rattle.comparer.proofs.absolute_of.Tie as tie
 

@@ -1,4 +1,5 @@
 -- `is_leaf`: what is tested so far. Assumes nothing.
+use Rattle.topology.specs.Tables.{allBelow}
 use Rattle.one_link_move.proofs.Leaf.{leaf-more}
 use Rattle.one_link_move.specs.Move.{leaf, noChild}
 use lib.Seq.{length-take-le}
@@ -6,13 +7,12 @@ use lib.ListN.{length, take}
 use Prim.Native.Nat.{_-_, _≤_, ℕ}
 use mathlib.Core.Path.{_∙_, _≡_, ap, refl}
 use native.Mathlib.Omega.{arith}
-use Rattle.kinematics.specs.Pass.{allTo}
 use borrow.Author.Needs.{needs}
 use Rattle.one_link_move.proofs.is_leaf.Statement.{statement}
 use Rattle.one_link_move.proofs.is_leaf.Tie as tie
 
 abbrev Inv-loop : tie.InvT-loop
-Inv-loop count link parents n ok₀ i₀ ok i = (i ≤ n) × (ok ≡ allTo i (noChild (take n parents) link))
+Inv-loop count link parents n ok₀ i₀ ok i = (i ≤ n) × (ok ≡ allBelow i (noChild (take n parents) link))
 
 abbrev μ-loop : tie.MeasureT-loop
 μ-loop count link parents n ok₀ i₀ ok i = n - i
@@ -21,6 +21,7 @@ live-links-requires : tie.Need-live-links-requires Inv-loop μ-loop
 live-links-requires c κs = search needs
 
 loop-holds : tie.Need-loop-holds Inv-loop μ-loop
+unfolding allBelow
 loop-holds c = (omega arith, refl)
 
 array-read-ok : tie.Need-array-read-ok Inv-loop μ-loop
@@ -43,7 +44,7 @@ returns c =
     let n = c .before .before .live-links .result in
     let w : length (take n (c .before .before .before .args .t1)) ≡ n = length-take-le n (c .before .before .before .args .t1) (omega (arith, c .before .before .live-links .ensures, c .before .before .before .good .0 .1 .0 .1)) in
     let e : c .before .loop .i ≡ length (take n (c .before .before .before .args .t1)) = omega arith in
-    c .before .loop .inv .1 ∙ ap (λ (k : ℕ). allTo k (noChild (take n (c .before .before .before .args .t1)) (c .before .before .before .args .link))) e ∙ ap (λ (k : ℕ). leaf (take k (c .before .before .before .args .t1)) (c .before .before .before .args .link)) (c .before .before .live-links .ensures)
+    c .before .loop .inv .1 ∙ ap (λ (k : ℕ). allBelow k (noChild (take n (c .before .before .before .args .t1)) (c .before .before .before .args .link))) e ∙ ap (λ (k : ℕ). leaf (take k (c .before .before .before .args .t1)) (c .before .before .before .args .link)) (c .before .before .live-links .ensures)
 
 pub is-leaf-spec : {M : Type 1} → statement M
 is-leaf-spec =

@@ -1,6 +1,5 @@
 -- `difference`: the definition, operation by operation. Assumes nothing.
 use mathlib.Core.Path.{refl}
-use borrow.Author.Needs.{needs}
 use Rattle.planar.specs.Poses.{pointDifference}
 use Rattle.planar.proofs.difference.Statement.{statement}
 use Rattle.planar.proofs.difference.Tie as tie

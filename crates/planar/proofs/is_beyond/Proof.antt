@@ -1,6 +1,5 @@
 -- `is_beyond`: the definition, operation by operation. Assumes nothing.
 use mathlib.Core.Path.{refl}
-use borrow.Author.Needs.{needs}
 use Rattle.planar.specs.Rotation.{isBeyond}
 use Rattle.planar.proofs.is_beyond.Statement.{statement}
 use Rattle.planar.proofs.is_beyond.Tie as tie

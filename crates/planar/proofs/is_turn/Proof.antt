@@ -1,6 +1,5 @@
 -- `is_turn`: the definition, operation by operation. Assumes nothing.
 use mathlib.Core.Path.{refl}
-use borrow.Author.Needs.{needs}
 use Rattle.planar.specs.Poses.{isTurn}
 use Rattle.planar.proofs.is_turn.Statement.{statement}
 use Rattle.planar.proofs.is_turn.Tie as tie

@@ -1,6 +1,5 @@
 -- `pose_of`: the definition, field by field. Assumes nothing.
 use mathlib.Core.Path.{refl}
-use borrow.Author.Needs.{needs}
 use Rattle.planar.specs.Poses.{posed}
 use Rattle.planar.proofs.pose_of.Statement.{statement}
 use Rattle.planar.proofs.pose_of.Tie as tie

@@ -1,9 +1,8 @@
 -- `quarter`: each arm is its remainder's pair. Assumes nothing.
-use mathlib.Core.Path.{_≡_, refl, sym}
+use mathlib.Core.Path.{_≡_, refl}
 use Prim.Native.Nat.{ℕ, zero, suc}
 use lib.Ieee.{Float, neg}
 use Rattle.planar.specs.Rotation.{pairBy}
-use Rattle.planar.specs.declared.Rotation.{Rotation}
 use Rattle.planar.proofs.quarter.Statement.{statement}
 use Rattle.planar.proofs.quarter.Tie as tie
 

@@ -1,9 +1,7 @@
 -- `rotation_at`: the pieces, put together as the definition does; a count of at most 163 is exact in f32. Assumes nothing.
 use borrow.Author.Needs.{needs}
-use mathlib.Core.Path.{_≡_, sym, subst}
-use Prim.Native.Nat.{ℕ, _≤_}
 use native.Mathlib.Omega.{arith}
-use lib.Dec.{T, le→leb}
+use lib.Dec.{le→leb}
 use lib.Ieee.{inFloat}
 use Rattle.planar.specs.Rotation.{rotationAt}
 use Rattle.planar.proofs.Turns.{turns-le}

@@ -1,6 +1,5 @@
 -- `rotation_of`: the definition, field by field. Assumes nothing.
 use mathlib.Core.Path.{refl}
-use borrow.Author.Needs.{needs}
 use Rattle.planar.specs.Poses.{rotationOf}
 use Rattle.planar.proofs.rotation_of.Statement.{statement}
 use Rattle.planar.proofs.rotation_of.Tie as tie

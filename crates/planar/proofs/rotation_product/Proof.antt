@@ -1,6 +1,5 @@
 -- `rotation_product`: the definition, operation by operation. Assumes nothing.
 use mathlib.Core.Path.{refl}
-use borrow.Author.Needs.{needs}
 use Rattle.planar.specs.Poses.{rotationProduct}
 use Rattle.planar.proofs.rotation_product.Statement.{statement}
 use Rattle.planar.proofs.rotation_product.Tie as tie

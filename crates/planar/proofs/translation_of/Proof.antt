@@ -1,6 +1,5 @@
 -- `translation_of`: the definition, field by field. Assumes nothing.
 use mathlib.Core.Path.{refl}
-use borrow.Author.Needs.{needs}
 use Rattle.planar.specs.Poses.{translationOf}
 use Rattle.planar.proofs.translation_of.Statement.{statement}
 use Rattle.planar.proofs.translation_of.Tie as tie

@@ -1,6 +1,5 @@
 -- `turned`: the definition, operation by operation. Assumes nothing.
 use mathlib.Core.Path.{refl}
-use borrow.Author.Needs.{needs}
 use Rattle.planar.specs.Poses.{turnedBy}
 use Rattle.planar.proofs.turned.Statement.{statement}
 use Rattle.planar.proofs.turned.Tie as tie

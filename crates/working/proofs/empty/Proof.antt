@@ -2,7 +2,6 @@
 use borrow.Author.Tests.{not-false, not-true}
 use borrow.Author.Needs.{needs}
 use Rattle.working.proofs.Emptied.{long, short}
-use Rattle.working.specs.Empty.{emptied}
 use Rattle.working.proofs.empty.Statement.{statement}
 use Rattle.working.proofs.empty.Tie as tie
 

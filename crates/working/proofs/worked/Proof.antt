@@ -1,5 +1,4 @@
 -- `worked`: each branch is its case of the definition. Assumes nothing.
-use borrow.Author.Needs.{needs}
 use Rattle.working.specs.Outcome.{workedBy}
 use Rattle.working.proofs.worked.Statement.{statement}
 use Rattle.working.proofs.worked.Tie as tie

@@ -1,6 +1,5 @@
 -- `zero_point`: the definition, field by field. Assumes nothing.
 use mathlib.Core.Path.{refl}
-use borrow.Author.Needs.{needs}
 use Rattle.working.specs.Empty.{zeroPoint}
 use Rattle.working.proofs.zero_point.Statement.{statement}
 use Rattle.working.proofs.zero_point.Tie as tie
