@@ -179,8 +179,3 @@ unfolding linkAdded
 the-addition a t sized settled new =
     right a t sized settled (addRefusal a t new) (addedInputs a new) (only (a .«link_count»)) (IsAdded a) (λ e.
     edit a t sized settled new (passed a t new e))
-
--- a settled arm stays settled, refused or not
-pub addition-keeps : (a : Arm) (t : List Float) → Sized a → Settled a t → (new : NewLink)
-    → Sized (linkAdded a t new .answer .arm) × Settled (linkAdded a t new .answer .arm) (linkAdded a t new .memory)
-addition-keeps a t sized settled new = let r = the-addition a t sized settled new in (r .sized, r .settled)

@@ -13,7 +13,6 @@ use Rattle.arm.specs.declared.Arm.{Arm}
 use Rattle.arm.specs.Arm.{isLink}
 use Rattle.arm.specs.HandedIn.{armEntries}
 use Rattle.arm.proofs.Accepted.{first-holds, rest-accepted, Link-there, there}
-use Rattle.arm_views.specs.Numbers.{startRefusal}
 use Rattle.arm_views.specs.Links.{springRefusal, linkDofs, mulRefusal}
 
 module _ (a : Arm) (link axis : ℕ) where
@@ -38,8 +37,3 @@ mul-there a link acc e =
     let from-link = rest-accepted (unlessOf (leb (linkDofs a link) (length acc)) 1) (unlessOf (isLink a link) 4 ∷ own ∷ armEntries a) e in
     there a link (first-holds (isLink a link) 3 (own ∷ armEntries a) from-link)
     (rest-accepted own (armEntries a) (rest-accepted (unlessOf (isLink a link) 4) (own ∷ armEntries a) from-link))
-
-pub start-there : (a : Arm) (link : ℕ) → startRefusal a link ≡ 0 → Link-there a link
-unfolding startRefusal
-start-there a link e =
-    there a link (first-holds (isLink a link) 3 (armEntries a) e) (rest-accepted (unlessOf (isLink a link) 4) (armEntries a) e)

@@ -8,8 +8,8 @@ use native.Mathlib.Omega.{arith}
 use lib.ListN.{length, take, set, replicate}
 use lib.Seq.{take-suc-set}
 use lib.Ieee.{Float, binary32, ofBits}
+use Rattle.refusal.proofs.Tests.{both-hold}
 use Rattle.floats.specs.Floats.{allFinite}
-use Rattle.floats.proofs.Sticky.{both-first, both-second}
 use Rattle.elimination.specs.Elimination.{entry, pivotRow, isZero, column, Factors, factors, trouble, columns, factored}
 use Rattle.elimination.proofs.Sticky.{finite-column}
 
@@ -69,7 +69,7 @@ module _ (n : ℕ) (a₀ a : List Float) (s : List ℕ) (whole f : Bool)
   found b c eb ec = e ∙ rw (← ef, ec, eb)
 
   pub factored-good : (whole && f) ≡ true → factors 0 a s ≡ factored n a₀
-  factored-good h = sym (found true true (both-first whole f h) (both-second whole f h))
+  factored-good h = sym (found true true (both-hold whole f h .0) (both-hold whole f h .1))
 
   module _ (h : (whole && f) ≡ false) (z : List Float) (y : List ℕ) (la : length a ≡ n * n) (ls : length s ≡ n)
       (ez : z ≡ replicate (length a) (ofBits binary32 0)) (ey : y ≡ replicate (length s) 0) where

@@ -5,8 +5,9 @@ use mathlib.Core.List.{List, [], _∷_}
 use Prim.Native.Nat.{ℕ, _+_}
 use lib.ListN.{take, drop}
 use lib.Ieee.{Float, binary32, mul}
+use Rattle.refusal.proofs.Tests.{both-hold, both}
 use Rattle.floats.specs.Floats.{isFinite, allFinite, zipTo}
-use Rattle.floats.proofs.Sticky.{finite-taken, both, both-first, both-second, finite-right}
+use Rattle.floats.proofs.Sticky.{finite-taken, finite-right}
 use Rattle.elimination.specs.Elimination.{factorOf, less, reducedRow}
 
 -- f times each entry of s that stands beside one of d
@@ -19,7 +20,7 @@ products-finite : (f : Float) (d s : List Float) → allFinite (zipTo (less f) d
 products-finite f [] s h = refl
 products-finite f (x ∷ xs) [] h = refl
 products-finite f (x ∷ xs) (y ∷ ys) h =
-    both (isFinite (mul binary32 f y)) (allFinite (products f xs ys)) (finite-taken x (mul binary32 f y) (both-first (isFinite (less f x y)) _ h)) (products-finite f xs ys (both-second (isFinite (less f x y)) _ h))
+    both (finite-taken x (mul binary32 f y) (both-hold (isFinite (less f x y)) _ h .0)) (products-finite f xs ys (both-hold (isFinite (less f x y)) _ h .1))
 
 pub every-value : (k : ℕ) (pivot r : List Float) → allFinite (reducedRow k pivot r) ≡ true
     → (isFinite (factorOf k pivot r) ≡ true) × (allFinite (products (factorOf k pivot r) (drop (k + 1) r) (drop (k + 1) pivot)) ≡ true)
@@ -27,4 +28,4 @@ unfolding reducedRow
 every-value k pivot r h =
     let f = factorOf k pivot r in
     let t = finite-right (take k r) _ h in
-    (both-first (isFinite f) _ t, products-finite f (drop (k + 1) r) (drop (k + 1) pivot) (both-second (isFinite f) _ t))
+    (both-hold (isFinite f) _ t .0, products-finite f (drop (k + 1) r) (drop (k + 1) pivot) (both-hold (isFinite f) _ t .1))

@@ -11,7 +11,7 @@ use lib.Seq.{length-take-le}
 use lib.Ieee.{Float}
 use Rattle.limits.specs.Limits.{dofLimit}
 use Rattle.refusal.specs.Refusal.{lowest, lowerOf, unlessOf}
-use Rattle.floats.proofs.Sticky.{both, both-first, both-second}
+use Rattle.refusal.proofs.Tests.{both-hold, both}
 use Rattle.elimination.specs.Elimination.{Factors, factors, factored, roomRefusal, overFront, factoredIn}
 
 -- for n above 0, n · n fits where n does into a share of n
@@ -59,7 +59,7 @@ module _ (n : ℕ) (a : List Float) (s : List ℕ) where
 
   pub factor-fits : n * n ≤ length a → n ≤ length s → n ≤ dofLimit → factoredIn n a s ≡ overFront n (factored n (take (n * n) a)) a s
   factor-fits la ls l =
-      answer-is 0 (none-given (leb (n * n) (length a) && leb n (length s)) (leb n dofLimit) (both (leb (n * n) (length a)) (leb n (length s)) (le-leb (n * n) (length a) la) (le-leb n (length s) ls)) (le-leb n dofLimit l))
+      answer-is 0 (none-given (leb (n * n) (length a) && leb n (length s)) (leb n dofLimit) (both (le-leb (n * n) (length a) la) (le-leb n (length s) ls)) (le-leb n dofLimit l))
 
   -- r is the code's test of the rows
   module _ (r : Bool) (er : r ≡ leb (n * n) (length a)) where
@@ -71,10 +71,10 @@ module _ (n : ℕ) (a : List Float) (s : List ℕ) where
 
     module _ (h : (r && leb n (length s)) ≡ true) where
       pub room-rows : n * n ≤ length a
-      room-rows = leb-true (n * n) (length a) (sym er ∙ both-first r _ h)
+      room-rows = leb-true (n * n) (length a) (sym er ∙ both-hold r _ h .0)
 
       pub room-swaps : n ≤ length s
-      room-swaps = leb-true n (length s) (both-second r _ h)
+      room-swaps = leb-true n (length s) (both-hold r _ h .1)
 
       pub factor-large : dofLimit < n → factors 2 a s ≡ factoredIn n a s
       factor-large g = sym (answer-is 2 (two-given (leb (n * n) (length a) && leb n (length s)) (leb n dofLimit) (room-is true h) (lt-leb n dofLimit g)))

@@ -10,8 +10,9 @@ use native.Mathlib.Omega.{arith}
 use lib.ListN.{length, take, drop, getD}
 use lib.Seq.{drop-drop, take-take, take-append-le, drop-append-le, length-take-le}
 use lib.Ieee.{Float, nan, binary32, mul}
+use Rattle.refusal.proofs.Tests.{both-hold, both}
 use Rattle.floats.specs.Floats.{isFinite, allFinite}
-use Rattle.floats.proofs.Sticky.{finite-sub, finite-div, both, both-first, both-second, finite-left, finite-right, finite-cut, finite-zip}
+use Rattle.floats.proofs.Sticky.{finite-sub, finite-div, finite-left, finite-right, finite-cut, finite-zip}
 use Rattle.elimination.specs.Elimination.{row, withRow, swapped, factorOf, less, reducedRow, reduced, column}
 use Rattle.elimination.proofs.Rows.{apart, inside, swapped-same}
 
@@ -19,17 +20,17 @@ use Rattle.elimination.proofs.Rows.{apart, inside, swapped-same}
 
 around : (k : ℕ) (r : List Float) → allFinite (take k r) ≡ true → isFinite (getD r k nan) ≡ true → allFinite (drop (suc k) r) ≡ true → allFinite r ≡ true
 around zero [] h e g = g
-around zero (x ∷ xs) h e g = both (isFinite x) (allFinite xs) e g
+around zero (x ∷ xs) h e g = both e g
 around (suc k) [] h e g = h
-around (suc k) (x ∷ xs) h e g = both (isFinite x) (allFinite xs) (both-first (isFinite x) _ h) (around k xs (both-second (isFinite x) _ h) e g)
+around (suc k) (x ∷ xs) h e g = both (both-hold (isFinite x) _ h .0) (around k xs (both-hold (isFinite x) _ h .1) e g)
 
 finite-row : (k : ℕ) (pivot r : List Float) → allFinite (reducedRow k pivot r) ≡ true → allFinite r ≡ true
 unfolding reducedRow
 finite-row k pivot r h =
     let f = factorOf k pivot r in
     let t = finite-right (take k r) _ h in
-    let z = finite-zip (less f) (λ x y. finite-sub x (mul binary32 f y)) (drop (k + 1) r) (drop (k + 1) pivot) (both-second (isFinite f) _ t) in
-    around k r (finite-left (take k r) _ h) (finite-div (getD r k nan) (getD pivot k nan) (both-first (isFinite f) _ t)) (rw add-one at z)
+    let z = finite-zip (less f) (λ x y. finite-sub x (mul binary32 f y)) (drop (k + 1) r) (drop (k + 1) pivot) (both-hold (isFinite f) _ t .1) in
+    around k r (finite-left (take k r) _ h) (finite-div (getD r k nan) (getD pivot k nan) (both-hold (isFinite f) _ t .0)) (rw add-one at z)
 
 -- ---- rows
 

@@ -12,8 +12,9 @@ use lib.ListN.{length, take, getD, set, replicate, length-set, length-replicate,
 use lib.Seq.{getD-set-same, getD-set-other}
 use lib.Ieee.{Float, nan}
 use Rattle.limits.specs.Limits.{dofLimit}
+use Rattle.refusal.proofs.Tests.{both-hold, both}
 use Rattle.floats.specs.Floats.{zero32, isFinite, allFinite}
-use Rattle.floats.proofs.Sticky.{both, both-first, both-second, finite-set}
+use Rattle.floats.proofs.Sticky.{finite-set}
 use Rattle.elimination.specs.Elimination.{row, factored}
 use Rattle.solve.specs.Solve.{exchanged, permuted, lessProducts, forward, backward, Answer, answer, substituted, solution, solveOf}
 use Rattle.solve.proofs.Sticky.{finite-start}
@@ -29,12 +30,12 @@ differ e = let z : _≡_ {A = ℕ} 0 1 = ap (λ (b : Bool). cond b 0 1) e in abs
 
 each-finite : (l : List Float) → allFinite l ≡ true → (i : ℕ) → i < length l → isFinite (getD l i nan) ≡ true
 each-finite [] h i g = absurd (omega arith)
-each-finite (x ∷ xs) h zero g = both-first (isFinite x) (allFinite xs) h
-each-finite (x ∷ xs) h (suc i) g = each-finite xs (both-second (isFinite x) (allFinite xs) h) i (omega arith)
+each-finite (x ∷ xs) h zero g = both-hold (isFinite x) (allFinite xs) h .0
+each-finite (x ∷ xs) h (suc i) g = each-finite xs (both-hold (isFinite x) (allFinite xs) h .1) i (omega arith)
 
 all-of-each : (l : List Float) → ((i : ℕ) → i < length l → isFinite (getD l i nan) ≡ true) → allFinite l ≡ true
 all-of-each [] h = refl
-all-of-each (x ∷ xs) h = both (isFinite x) (allFinite xs) (h zero (omega arith)) (all-of-each xs (λ i g. h (suc i) (omega arith)))
+all-of-each (x ∷ xs) h = both (h zero (omega arith)) (all-of-each xs (λ i g. h (suc i) (omega arith)))
 
 module _ (p q : ℕ) (b : List Float) (inside : q < length b) where
   abbrev once : List Float

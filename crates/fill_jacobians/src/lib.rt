@@ -8,7 +8,7 @@ ghost use Rattle.limits.specs.Limits.{dofLimit, blockSize};
 ghost use Rattle.floats.specs.Floats.{allFinite};
 ghost use Rattle.arm.specs.Arm.{entriesTo};
 ghost use Rattle.unit_multibody_joint.specs.Outcome.{out};
-ghost use Rattle.fill_jacobians.specs.Sums.{columnOf, forceRow, dot, sumsOf, refusedSums, finiteSums, wildRefusal, fillBy};
+ghost use Rattle.fill_jacobians.specs.Sums.{forceRow, dot, sumsOf, refusedSums, finiteSums, wildRefusal, fillBy};
 ghost use Rattle.fill_jacobians.specs.Fill.{forceFinite, fillRefusal, fillAnswer};
 use arm::Arm;
 use arm::Row;

@@ -1,10 +1,11 @@
 -- A float that isn't finite stays so: where a difference, a quotient or a row made of such is finite, so is what it was made of.
 use mathlib.Core.Path.{_≡_, refl}
-use mathlib.Core.Bool.{Bool, true, false, _&&_}
+use mathlib.Core.Bool.{true, false}
 use mathlib.Core.List.{List, [], _∷_, _++_}
 use Prim.Native.Nat.{ℕ, zero, suc}
 use lib.ListN.{take, drop, getD, set}
 use lib.Ieee.{Float, nan, inf, fin, binary32, add, sub, neg, div}
+use Rattle.refusal.proofs.Tests.{both-hold, both}
 use Rattle.floats.specs.Floats.{isFinite, allFinite, zipTo}
 
 -- ---- floats
@@ -43,36 +44,24 @@ finite-div (fin s m e) y h = refl
 
 -- ---- rows and their parts
 
-pub both-first : (a b : Bool) → (a && b) ≡ true → a ≡ true
-both-first true b h = refl
-both-first false b h = h
-
-pub both-second : (a b : Bool) → (a && b) ≡ true → b ≡ true
-both-second true b h = h
-both-second false true h = refl
-both-second false false h = h
-
-pub both : (a b : Bool) → a ≡ true → b ≡ true → (a && b) ≡ true
-both a b h g = rw (h, g)
-
 pub finite-left : (a b : List Float) → allFinite (a ++ b) ≡ true → allFinite a ≡ true
 finite-left [] b h = refl
-finite-left (x ∷ xs) b h = both (isFinite x) (allFinite xs) (both-first (isFinite x) _ h) (finite-left xs b (both-second (isFinite x) _ h))
+finite-left (x ∷ xs) b h = both (both-hold (isFinite x) _ h .0) (finite-left xs b (both-hold (isFinite x) _ h .1))
 
 pub finite-right : (a b : List Float) → allFinite (a ++ b) ≡ true → allFinite b ≡ true
 finite-right [] b h = h
-finite-right (x ∷ xs) b h = finite-right xs b (both-second (isFinite x) _ h)
+finite-right (x ∷ xs) b h = finite-right xs b (both-hold (isFinite x) _ h .1)
 
 pub finite-cut : (i : ℕ) (a : List Float) → allFinite (take i a) ≡ true → allFinite (drop i a) ≡ true → allFinite a ≡ true
 finite-cut zero a h g = g
 finite-cut (suc i) [] h g = refl
-finite-cut (suc i) (x ∷ xs) h g = both (isFinite x) (allFinite xs) (both-first (isFinite x) _ h) (finite-cut i xs (both-second (isFinite x) _ h) g)
+finite-cut (suc i) (x ∷ xs) h g = both (both-hold (isFinite x) _ h .0) (finite-cut i xs (both-hold (isFinite x) _ h .1) g)
 
 -- a row with another value at i
 pub finite-set : (i : ℕ) (a : List Float) (v : Float) → (isFinite v ≡ true → isFinite (getD a i nan) ≡ true) → allFinite (set a i v) ≡ true → allFinite a ≡ true
 finite-set i [] v g h = refl
-finite-set zero (x ∷ xs) v g h = both (isFinite x) (allFinite xs) (g (both-first (isFinite v) _ h)) (both-second (isFinite v) _ h)
-finite-set (suc i) (x ∷ xs) v g h = both (isFinite x) (allFinite xs) (both-first (isFinite x) _ h) (finite-set i xs v g (both-second (isFinite x) _ h))
+finite-set zero (x ∷ xs) v g h = both (g (both-hold (isFinite v) _ h .0)) (both-hold (isFinite v) _ h .1)
+finite-set (suc i) (x ∷ xs) v g h = both (both-hold (isFinite x) _ h .0) (finite-set i xs v g (both-hold (isFinite x) _ h .1))
 
 -- a row that was worked entry by entry
 pub finite-zip : (f : Float → Float → Float) → ((x y : Float) → isFinite (f x y) ≡ true → isFinite x ≡ true)
@@ -80,4 +69,4 @@ pub finite-zip : (f : Float → Float → Float) → ((x y : Float) → isFinite
 finite-zip f g [] s h = refl
 finite-zip f g (x ∷ xs) [] h = h
 finite-zip f g (x ∷ xs) (y ∷ ys) h =
-    both (isFinite x) (allFinite xs) (g x y (both-first (isFinite (f x y)) _ h)) (finite-zip f g xs ys (both-second (isFinite (f x y)) _ h))
+    both (g x y (both-hold (isFinite (f x y)) _ h .0)) (finite-zip f g xs ys (both-hold (isFinite (f x y)) _ h .1))

@@ -9,7 +9,7 @@ use native.Mathlib.Numerals.{add-one}
 use lib.ListN.{length, take, getD, length-append, List·getD-append}
 use lib.Seq.{take-suc, take-all, getD-at}
 use Rattle.masks.specs.Masks.{dofsOf}
-use Rattle.masks.specs.Starts.{totalOf, startOf, startsTo, startsOf}
+use Rattle.masks.specs.Starts.{totalOf, startOf, startsTo}
 use Rattle.masks.proofs.Laws.{dofs-le}
 
 pub total-snoc : (ms : List ℕ) (m : ℕ) → totalOf (ms ++ (m ∷ [])) ≡ totalOf ms + dofsOf m
@@ -55,10 +55,6 @@ pub length-startsTo : (ms : List ℕ) (i : ℕ) → length (startsTo ms i) ≡ i
 unfolding startsTo
 length-startsTo ms zero = refl
 length-startsTo ms (suc i) = simp length-append (omega (arith, length-startsTo ms i))
-
-pub length-starts : (ms : List ℕ) → length (startsOf ms) ≡ length ms
-unfolding startsOf
-length-starts ms = length-startsTo ms (length ms)
 
 same : {i n : ℕ} → suc i ≡ suc n → i ≡ n
 same e = omega arith

@@ -230,8 +230,3 @@ unfolding linkMoved
 the-move a t sized settled link change =
     right a t sized settled (moveRefusal a t link change) (movedInputs a link change) (marked (marks (parentsOf a) link)) (AtOrBelow a link) (λ e.
     edit a t sized settled link change (passed a t link change e))
-
--- a settled arm stays settled, refused or not
-pub move-keeps : (a : Arm) (t : List Float) → Sized a → Settled a t → (link : ℕ) (change : Change)
-    → Sized (linkMoved a t link change .answer .arm) × Settled (linkMoved a t link change .answer .arm) (linkMoved a t link change .memory)
-move-keeps a t sized settled link change = let r = the-move a t sized settled link change in (r .sized, r .settled)

@@ -23,10 +23,6 @@ pub record Laid {A : Type 0} (g : ℕ → List A) (blanks : List A) (j : ℕ) (o
   pub counted : count ≡ length (gathered j g)
 
 module _ {A : Type 0} (g : ℕ → List A) where
-  pub gathered-none : gathered 0 g ≡ []
-  unfolding gathered
-  gathered-none = refl
-
   pub gathered-more : (j : ℕ) → gathered (j + 1) g ≡ gathered j g ++ g j
   unfolding gathered
   gathered-more j = rw add-one

@@ -10,7 +10,7 @@ use borrow.Author.Tests.{lt-ltb, le-ltb, le-leb, lt-leb, ltb-true, leb-true, leb
 use lib.Dec.{ltb, leb}
 use lib.ListN.{length, drop, getD, drop-of-length-le, length-append}
 use lib.Seq.{drop-cons}
-use Rattle.script_words.proofs.Flags.{both}
+use Rattle.refusal.proofs.Tests.{both-hold}
 use Rattle.script_read.specs.Numbers.{isWithin, digitOf, areDigits, someDigits, valueFrom, wholeOf}
 use Rattle.script_read.specs.declared.NumberWord.the-variants.{Value, Unreadable}
 
@@ -147,7 +147,7 @@ whole-value base most first s m e = go (someDigits base s && leb (valueFrom base
     go : (b : Bool) → (someDigits base s && leb (valueFrom base first s) most) ≡ b → cond b (Value (valueFrom base first s)) Unreadable ≡ Value m
         → (someDigits base s ≡ true) × (valueFrom base first s ≡ m) × (m ≤ most)
     go true t q =
-        let p = both (someDigits base s) (leb (valueFrom base first s) most) t in
+        let p = both-hold (someDigits base s) (leb (valueFrom base first s) most) t in
         let l = leb-true (valueFrom base first s) most (p .1) in
         let v : valueFrom base first s ≡ m = cc in
         (p .0, v, omega arith)
@@ -180,7 +180,7 @@ digits-rows base (x ∷ xs) b e = go (ltb (digitOf x) base) refl (digits-rows ba
 
 some-parts : (base : ℕ) (s : List ℕ) → someDigits base s ≡ true → (0 < length s) × (areDigits base s ≡ true)
 some-parts base s e =
-    let p = both (ltb 0 (length s)) (areDigits base s) e in
+    let p = both-hold (ltb 0 (length s)) (areDigits base s) e in
     (ltb-true 0 (length s) (p .0), p .1)
 
 pub some-rows : (base : ℕ) (a b : List ℕ) → someDigits base a ≡ true → someDigits base b ≡ true → someDigits base (a ++ b) ≡ true

@@ -8,7 +8,7 @@ use borrow.Author.Tests.{le-leb, leb-true}
 use lib.Dec.{leb}
 use lib.ListN.{drop, length, take, length-append}
 use lib.Seq.{length-take-le, take-at}
-use Rattle.script_words.proofs.Flags.{both}
+use Rattle.refusal.proofs.Tests.{both-hold}
 use Rattle.script_write.specs.Writing.{Written, wordWritten}
 use Rattle.script_answer.specs.Text.{Text, bytesOf, textAfter}
 use Rattle.script_answer.proofs.Whole.{whole}
@@ -27,7 +27,7 @@ word-printed w b h =
 pub answer-printed : (t : Text) (w : Written) → hasRoom w ≡ true → allFit (t ∷ []) ≡ true → soFar (textAfter t w) ≡ soFar w ++ allBytes (t ∷ [])
 unfolding allFit allBytes hasRoom
 answer-printed t w r f =
-    let k = leb-true (length (bytesOf t)) longestAnswer (both (leb (length (bytesOf t)) longestAnswer) true f .0) in
+    let k = leb-true (length (bytesOf t)) longestAnswer (both-hold (leb (length (bytesOf t)) longestAnswer) true f .0) in
     let m = leb-true (w .next + longestAnswer) (length (w .buffer)) r in
     let h : w .next + length (bytesOf t) ≤ length (w .buffer) = omega (arith, k, m) in
     rw (whole t w h, append-nil (bytesOf t)) (word-printed w (bytesOf t) h)
@@ -47,7 +47,7 @@ bytes-both (x ∷ xs) ys = ap (λ (b : List ℕ). bytesOf x ++ b) (bytes-both xs
 module _ (xs ys : List Text) (u v w : List ℕ) where
   pub printed-both : (allFit xs ≡ true → v ≡ u ++ allBytes xs) → (allFit ys ≡ true → w ≡ v ++ allBytes ys) → allFit (xs ++ ys) ≡ true → w ≡ u ++ allBytes (xs ++ ys)
   printed-both f g e =
-      let p = both (allFit xs) (allFit ys) (sym (fit-both xs ys) ∙ e) in
+      let p = both-hold (allFit xs) (allFit ys) (sym (fit-both xs ys) ∙ e) in
       g (p .1) ∙ ap (λ (b : List ℕ). b ++ allBytes ys) (f (p .0)) ∙ append-assoc u (allBytes xs) (allBytes ys) ∙ ap (λ (b : List ℕ). u ++ b) (sym (bytes-both xs ys))
 
 pub none-printed : (u : List ℕ) → u ≡ u ++ allBytes []

@@ -5,7 +5,7 @@ use mathlib.Core.Path.{_≡_, refl, sym, ap, _∙_}
 use mathlib.Core.Bool.{true}
 use mathlib.Core.List.{List, [], _∷_, _++_}
 use lib.ListN.{drop, length, drop-of-length-le}
-use Rattle.script_words.proofs.Flags.{both}
+use Rattle.refusal.proofs.Tests.{both-hold}
 use Rattle.script_words.specs.Lines.{longestLine, newline}
 use Rattle.script_write.specs.Writing.{Written, written}
 use Rattle.script_answer.specs.Text.{Text}
@@ -41,7 +41,7 @@ called : (xs : List Text) (t t′ : Told) (u bytes : List ℕ) → t ≡ behindA
     → (allFit (t′ .answers) ≡ true → bytes ≡ allBytes (t′ .answers)) → allFit (t .answers) ≡ true → u ++ bytes ≡ allBytes (t .answers)
 called xs t t′ u bytes e f g h =
     let a = ap (λ (t : Told). t .answers) e in
-    let p = both (allFit xs) (allFit (t′ .answers)) (sym (fit-both xs (t′ .answers)) ∙ ap allFit (sym a) ∙ h) in
+    let p = both-hold (allFit xs) (allFit (t′ .answers)) (sym (fit-both xs (t′ .answers)) ∙ ap allFit (sym a) ∙ h) in
     rw (f (p .0), g (p .1), a) (sym (bytes-both xs (t′ .answers)))
 
 pub the-run : (pieces : List (List ℕ)) (line : List ℕ) (s t : Stand) (bytes : List ℕ) → Prints pieces s bytes t → Holds line (s .line) (s .held)

@@ -9,7 +9,7 @@ use borrow.Rule.Slice.PartAt.{part-to-end}
 use lib.Dec.{ltb}
 use lib.ListN.{drop, length, take}
 use lib.Ieee.{Float}
-use Rattle.script_words.proofs.Flags.{both}
+use Rattle.refusal.proofs.Tests.{both-hold}
 use Rattle.script_words.specs.Words.{bytesBefore}
 use Rattle.script_words.specs.Lines.{newline}
 use Rattle.script_write.specs.Writing.{Written}
@@ -73,11 +73,11 @@ module _ (piece : List ℕ) (s : Stand) where
 
   pub more-to-read : goesOn piece s ≡ true → s .read < length piece
   unfolding goesOn
-  more-to-read e = ltb-true (s .read) (length piece) (both (ltb (s .read) (length piece)) (hasRoom (s .said)) e .0)
+  more-to-read e = ltb-true (s .read) (length piece) (both-hold (ltb (s .read) (length piece)) (hasRoom (s .said)) e .0)
 
   pub still-room : goesOn piece s ≡ true → hasRoom (s .said) ≡ true
   unfolding goesOn
-  still-room e = both (ltb (s .read) (length piece)) (hasRoom (s .said)) e .1
+  still-room e = both-hold (ltb (s .read) (length piece)) (hasRoom (s .said)) e .1
 
 -- ---- as many turns as bytes are enough
 

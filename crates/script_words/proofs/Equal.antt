@@ -9,7 +9,7 @@ use borrow.Author.Tests.{eq-eqb, ne-eqb, eqb-true}
 use lib.Dec.{eqb}
 use lib.ListN.{length, drop, getD, drop-of-length-le}
 use lib.Seq.{drop-cons}
-use Rattle.script_words.proofs.Flags.{both}
+use Rattle.refusal.proofs.Tests.{both-hold}
 use Rattle.script_words.specs.Words.{sameBytes}
 
 pub other-length : (a b : List ℕ) → (length a ≡ length b → ⊥) → sameBytes a b ≡ false
@@ -45,7 +45,7 @@ same-equal [] [] e = refl
 same-equal [] (y ∷ ys) e = let z : _≡_ {A = ℕ} 0 1 = cc in absurd (omega arith)
 same-equal (x ∷ xs) [] e = let z : _≡_ {A = ℕ} 0 1 = cc in absurd (omega arith)
 same-equal (x ∷ xs) (y ∷ ys) e =
-    let p = both (eqb x y) (sameBytes xs ys) e in
+    let p = both-hold (eqb x y) (sameBytes xs ys) e in
     let q = eqb-true x y (p .0) in
     let r = same-equal xs ys (p .1) in
     cc

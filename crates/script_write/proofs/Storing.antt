@@ -11,7 +11,7 @@ use borrow.Rule.Slice.PartAt.{part-to-end}
 use lib.Dec.{ltb}
 use lib.ListN.{length, take, drop, set, length-set}
 use lib.Seq.{paste, take-length}
-use Rattle.script_words.proofs.Flags.{both}
+use Rattle.refusal.proofs.Tests.{both-hold}
 use Rattle.script_write.specs.Writing.{written, wordWritten, glyph, decimalDigits}
 
 module _ (out : List ℕ) (at : ℕ) (word : List ℕ) where
@@ -54,7 +54,7 @@ next-digit (suc i) n l h k p =
 
 pub more-digits : (n i : ℕ) → (ltb 9 n && ltb 0 i) ≡ true → (9 < n) × (0 < i)
 more-digits n i e =
-    let p = both (ltb 9 n) (ltb 0 i) e in
+    let p = both-hold (ltb 9 n) (ltb 0 i) e in
     (ltb-true 9 n (p .0), ltb-true 0 i (p .1))
 
 no-more : (n i : ℕ) → (ltb 9 n && ltb 0 i) ≡ false → (n ≤ 9) ⊎ (i ≡ 0)

@@ -3,7 +3,7 @@ use Prim.Native.Nat.{ℕ, zero, suc, _≤_, _<_}
 use mathlib.Core.Path.{_≡_, sym, ap, _∙_}
 use mathlib.Core.Bool.{true}
 use native.Mathlib.Omega.{arith}
-use lib.ListN.{length, take, getD, length-map, List·getD-eq-default}
+use lib.ListN.{length, take, getD, length-map}
 use lib.Seq.{getD-take, length-take-le}
 use Rattle.limits.specs.Limits.{linkLimit}
 use borrow.Author.Tests.{eqb-true}
@@ -34,10 +34,6 @@ module _ (a : Arm) (whole : length (a .links) ≡ linkLimit) where
       sym
       (map-at of-arm.parentOf (take (liveLinks a) (a .links)) link d 0 (omega (arith, length-take-le (liveLinks a) (a .links) (omega arith)))
       ∙ ap of-arm.parentOf (getD-take (liveLinks a) (a .links) link d h))
-
-  pub parent-past : (link : ℕ) → liveLinks a ≤ link → 0 ≡ by-list.parentOf (parentsOf a) link
-  unfolding parentsOf
-  parent-past link h = sym (List·getD-eq-default (parentsOf a) 0 (omega (arith, length-map (linksOf a) of-arm.parentOf, links-live a whole)))
 
   module _ (few : a .«link_count» ≤ linkLimit) where
     pub live : liveLinks a ≡ a .«link_count»

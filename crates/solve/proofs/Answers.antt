@@ -14,9 +14,9 @@ use lib.Ieee.{Float, binary32, ofBits}
 use Rattle.limits.specs.Limits.{dofLimit}
 use Rattle.refusal.specs.Refusal.{lowest, lowerOf, unlessOf}
 use Rattle.refusal.proofs.Laws.{is-lowest}
+use Rattle.refusal.proofs.Tests.{both-hold}
 use Rattle.floats.specs.Floats.{allFinite, overlaid}
 use Rattle.floats.proofs.Rows.{overlaid-parts}
-use Rattle.floats.proofs.Sticky.{both-first, both-second}
 use Rattle.elimination.specs.Elimination.{Factors, factors, factored, overFront, factoredIn}
 use Rattle.elimination.proofs.Rows.{square-mono}
 use Rattle.elimination.proofs.Room.{one-given, two-given, none-given, factor-fits}
@@ -26,10 +26,10 @@ use Rattle.solve.proofs.Sticky.{finite-backward}
 -- ---- tests together
 
 three : (p q r : Bool) → (p && q && r) ≡ true → (p ≡ true) × (q ≡ true) × (r ≡ true)
-three p q r h = let a = both-first (p && q) r h in (both-first p q a, both-second p q a, both-second (p && q) r h)
+three p q r h = let a = both-hold (p && q) r h .0 in (both-hold p q a .0, both-hold p q a .1, both-hold (p && q) r h .1)
 
 four : (p q r s : Bool) → (p && q && r && s) ≡ true → (p ≡ true) × (q ≡ true) × (r ≡ true) × (s ≡ true)
-four p q r s h = let a = three p q r (both-first (p && q && r) s h) in (a .0, a .1, a .2, both-second (p && q && r) s h)
+four p q r s h = let a = three p q r (both-hold (p && q && r) s h .0) in (a .0, a .1, a .2, both-hold (p && q && r) s h .1)
 
 holds : (b : Bool) (k : ℕ) → unlessOf b (suc k) ≡ 0 → b ≡ true
 holds true k e = refl
