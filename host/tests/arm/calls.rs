@@ -1,8 +1,9 @@
 //! Every call on an arm with its arguments, made over memory that the test lends.
 
-use crate::memory::{Memory, bits};
+use crate::memory::{Memory, Place, bits};
 use giellavor::abi::{Arm, Edited, Force, Limits, NewCoupling, NewLink, Point, Pose, Spring};
 use giellavor::{LINKS, TABLES, ffi};
+use std::hint::black_box;
 
 #[derive(Clone, Copy, Debug)]
 pub enum Call {
@@ -81,14 +82,12 @@ impl Came {
     }
 }
 
-/// A call that edits an arm in its place. No call answers the number that stands there before.
+/// A call that edits an arm in its place.
 fn edited(arm: &Arm, tables: usize, call: impl FnOnce(&mut Edited)) -> Came {
-    let mut edited = Edited {
-        arm: *arm,
-        refusal: u8::MAX,
-    };
-    call(&mut edited);
-    Came::edited(edited, tables)
+    let mut place = Place::of(arm);
+    call(&mut place.edited);
+    assert!(black_box(&place).is_guarded());
+    Came::edited(place.edited, tables)
 }
 
 impl World {

@@ -1,6 +1,6 @@
 //! Memory to lend, between guards; and arms by their bits.
 
-use giellavor::abi::{Arm, Coupling, Joint, Link, Point, Pose, Rotation};
+use giellavor::abi::{Arm, Coupling, Edited, Joint, Link, Point, Pose, Rotation};
 
 const GUARD: usize = 16;
 
@@ -45,6 +45,34 @@ impl<T: Item> Memory<T> {
         self.0.len() == before.0.len()
             && same(&self.0[..GUARD], &before.0[..GUARD])
             && same(&self.0[free..], &before.0[free..])
+    }
+}
+
+/// An arm that is edited in its place, between guards.
+#[repr(C)]
+pub struct Place {
+    front: [u8; GUARD],
+    pub edited: Edited,
+    back: [u8; GUARD],
+}
+
+impl Place {
+    /// No call answers the number that stands there before.
+    pub fn of(arm: &Arm) -> Place {
+        let edited = Edited {
+            arm: *arm,
+            refusal: u8::MAX,
+        };
+        let guard = [u8::GUARD; GUARD];
+        Place {
+            front: guard,
+            edited,
+            back: guard,
+        }
+    }
+
+    pub fn is_guarded(&self) -> bool {
+        [self.front, self.back] == [[u8::GUARD; GUARD]; 2]
     }
 }
 
