@@ -11,7 +11,7 @@ use lib.ListN.{length, take, drop, getD, set, length-map, length-append, length-
 use lib.Seq.{take-suc-set, getD-at}
 use lib.Ieee.{Float}
 use Rattle.limits.specs.Limits.{linkLimit, couplingLimit}
-use Rattle.refusal.proofs.Tests.{both-hold}
+use Rattle.refusal.proofs.Tests.{both-hold, both}
 use Rattle.floats.specs.Floats.{allFinite, zero32}
 use Rattle.masks.specs.Masks.{dofsOf, dampingRow}
 use Rattle.masks.specs.Answers.{laid}
@@ -31,9 +31,9 @@ use Rattle.arm.specs.Edits.{modify}
 use Rattle.arm.specs.HandedIn.{every, differs, isNew, unique, tagsUnique, parentsEarlier, couplingLinksFit, jointMasksFit, linkMasksFit, rootMaskFits, rootFits, linkFinite, rowsFinite, linkAngleFits}
 use Rattle.arm.proofs.Every.{every-map}
 use Rattle.arm.proofs.Live.{links-live, masks-live}
+use Rattle.arm.proofs.Modified.{modify-every}
 use Rattle.settled.proofs.Accepted.{Accepted}
-use Rattle.settled.proofs.Lists.{both, every-snoc}
-use Rattle.settled.proofs.Modified.{modify-every}
+use Rattle.settled.proofs.Lists.{every-snoc}
 use Rattle.addition.specs.declared.NewLink.{NewLink}
 use Rattle.addition.specs.NewLink.{zeros, linkOf, entriesSet, rowsWith, addedInputs}
 use Rattle.addition.specs.Addition.{eachMask, masksFit}

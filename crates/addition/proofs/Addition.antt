@@ -21,6 +21,7 @@ use Rattle.arm.specs.declared.Arm.{Arm}
 use Rattle.arm.specs.Arm.{dofCountOf, entriesOf}
 use Rattle.arm.specs.Edits.{modify}
 use Rattle.arm.proofs.Lists.{map-take, map-at}
+use Rattle.arm.proofs.Modified.{length-modify, modify-same, modify-other}
 use Rattle.kinematics.specs.Blocks.{blockAt}
 use Rattle.kinematics.specs.Link.{finiteKept}
 use Rattle.kinematics.specs.State.{state, noLink, linkAt, parentOf, lockedOf, inputsOf, keptAt, keptOps}
@@ -30,7 +31,6 @@ use Rattle.working.specs.Full.{Settled}
 use Rattle.kinematics.specs.Promises.{Fresh, Ready}
 use Rattle.arm.specs.Agree.{Sized}
 use Rattle.settled.proofs.Parents.{parent-le}
-use Rattle.settled.proofs.Modified.{length-modify, modify-same, modify-other}
 use Rattle.settled.proofs.Settles.{Facts, facts}
 use Rattle.settled.proofs.Right.{Edit, right}
 use Rattle.addition.specs.declared.NewLink.{NewLink}

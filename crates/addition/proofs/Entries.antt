@@ -23,7 +23,7 @@ use Rattle.arm.specs.Arm.{masksOf, dofCountOf, rowNumber}
 use Rattle.arm.specs.Edits.{modify}
 use Rattle.arm.proofs.Lists.{filled-all}
 use Rattle.arm.proofs.Live.{masks-live}
-use Rattle.arm.proofs.Edits.{set-modify}
+use Rattle.arm.proofs.Modified.{set-modify}
 use Rattle.kinematics.proofs.Blocks.{copied-in}
 use Rattle.addition.specs.NewLink.{zeros, entriesSet, rowsFrom}
 

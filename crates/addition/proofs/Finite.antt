@@ -8,8 +8,9 @@ use lib.Dec.{eqb}
 use lib.ListN.{length, take, drop}
 use lib.Seq.{take-at, length-take-le}
 use lib.Ieee.{Float, binary32, ofBits, ofFields, lt}
-use Rattle.refusal.proofs.Tests.{both-hold}
-use Rattle.floats.specs.Floats.{isFinite, allFinite, zero32, one32}
+use Rattle.refusal.proofs.Tests.{both-hold, both}
+use Rattle.floats.specs.Floats.{isFinite, allFinite, one32}
+use Rattle.floats.proofs.FiniteRows.{zero-finite, finite-join, finite-take, finite-drop}
 use Rattle.masks.specs.Masks.{isFree, dampingOf, dampingBelow, dampingRow}
 use Rattle.masks.specs.Answers.{laid}
 use Rattle.planar.specs.Rotation.{isBeyond}
@@ -17,16 +18,11 @@ use Rattle.planar.specs.Poses.{rotationOf, translationOf, identityPose, finiteR
 use Rattle.arm.specs.declared.Row.{Row}
 use Rattle.arm.specs.Arm.{entriesTo}
 use Rattle.arm.specs.HandedIn.{jointFinite, linkFinite, angleFits, linkAngleFits}
-use Rattle.settled.proofs.Lists.{both}
 use Rattle.addition.specs.declared.NewLink.{NewLink}
 use Rattle.addition.specs.NewLink.{zeros, origin, linkOf, entriesSet}
 use Rattle.addition.specs.Addition.{floatsFinite}
 
 -- ---- the numbers
-
-zero-finite : isFinite zero32 ≡ true
-unfolding ofBits ofFields
-zero-finite = refl
 
 one-finite : isFinite one32 ≡ true
 unfolding ofBits ofFields
@@ -70,25 +66,11 @@ link-within new = refl
 
 -- ---- lists
 
-pub append-finite : (xs ys : List Float) → allFinite xs ≡ true → allFinite ys ≡ true → allFinite (xs ++ ys) ≡ true
-append-finite [] ys p q = q
-append-finite (x ∷ xs) ys p q = let e = both-hold (isFinite x) (allFinite xs) p in both (e .0) (append-finite xs ys (e .1) q)
-
-pub take-finite : (n : ℕ) (xs : List Float) → allFinite xs ≡ true → allFinite (take n xs) ≡ true
-take-finite zero xs p = refl
-take-finite (suc n) [] p = refl
-take-finite (suc n) (x ∷ xs) p = let e = both-hold (isFinite x) (allFinite xs) p in both (e .0) (take-finite n xs (e .1))
-
-drop-finite : (n : ℕ) (xs : List Float) → allFinite xs ≡ true → allFinite (drop n xs) ≡ true
-drop-finite zero xs p = p
-drop-finite (suc n) [] p = refl
-drop-finite (suc n) (x ∷ xs) p = drop-finite n xs (both-hold (isFinite x) (allFinite xs) p .1)
-
 -- the default damping, at the front of three places
 below-finite : (mask axis : ℕ) → allFinite (dampingBelow mask axis) ≡ true
 unfolding dampingBelow
 below-finite mask zero = refl
-below-finite mask (suc axis) = append-finite (dampingBelow mask axis) _ (below-finite mask axis) (go (isFree mask axis))
+below-finite mask (suc axis) = finite-join (dampingBelow mask axis) _ (below-finite mask axis) (go (isFree mask axis))
   where
     go : (b : Bool) → allFinite (cond b (dampingOf axis ∷ []) []) ≡ true
     go true = both (damping-finite axis) refl
@@ -96,14 +78,14 @@ below-finite mask (suc axis) = append-finite (dampingBelow mask axis) _ (below-f
 
 pub laid-finite : (mask : ℕ) → allFinite (laid (dampingRow mask) zeros) ≡ true
 unfolding laid dampingRow
-laid-finite mask = append-finite (dampingRow mask) _ (below-finite mask 3) (drop-finite (length (dampingRow mask)) zeros zeros-finite)
+laid-finite mask = finite-join (dampingRow mask) _ (below-finite mask 3) (finite-drop (length (dampingRow mask)) zeros zeros-finite)
 
 -- ---- a row with entries set behind its first d
 
 behind-finite : (d : ℕ) (es v : List Float) → allFinite (take d es) ≡ true → allFinite v ≡ true → (n : ℕ) → length v ≡ n
     → allFinite (take (d + n) (take d es ++ (v ++ drop (d + n) es))) ≡ true
 behind-finite zero es v p q n e = rw (zero-add n, take-at v (drop n es) n e) q
-behind-finite (suc d) [] v p q n e = rw suc-add (take-finite (suc (d + n)) (v ++ []) (append-finite v [] q refl))
+behind-finite (suc d) [] v p q n e = rw suc-add (finite-take (suc (d + n)) (v ++ []) (finite-join v [] q refl))
 behind-finite (suc d) (x ∷ es) v p q n e = rw suc-add (both (both-hold (isFinite x) (allFinite (take d es)) p .0) (behind-finite d es v (both-hold (isFinite x) (allFinite (take d es)) p .1) q n e))
 
 -- the front of a front
@@ -121,7 +103,7 @@ rowFinite d row = allFinite (entriesTo d row)
 module _ (d n : ℕ) (values : List Float) (h : n ≤ length values) (v : allFinite values ≡ true) (row : Row) where
   pub row-finite : rowFinite d row ≡ true → rowFinite (d + n) (entriesSet d n values row) ≡ true
   unfolding entriesSet
-  row-finite p = behind-finite d (row .entries) (take n values) p (take-finite n values v) n (length-take-le n values h)
+  row-finite p = behind-finite d (row .entries) (take n values) p (finite-take n values v) n (length-take-le n values h)
 
   pub row-before : rowFinite (d + n) row ≡ true → rowFinite d row ≡ true
   row-before p = front-finite d n (row .entries) p

@@ -8,14 +8,14 @@ use borrow.Author.Tests.{leb-true, ltb-true, eqb-true}
 use lib.Dec.{eqb, ltb}
 use lib.Ieee.{Float}
 use Rattle.limits.specs.Limits.{linkLimit}
-use Rattle.refusal.proofs.Tests.{both-hold}
+use Rattle.refusal.proofs.Tests.{both-hold, holds}
+use Rattle.refusal.proofs.Laws.{none-of}
 use Rattle.topology.specs.Parents.{parentFits}
 use Rattle.arm.specs.declared.Arm.{Arm}
 use Rattle.arm.specs.Arm.{tagsOf}
 use Rattle.arm.specs.HandedIn.{isNew, armRefusal}
 use Rattle.working.specs.Outcome.{tablesFit}
 use Rattle.settled.specs.Above.{aboveFinite}
-use Rattle.settled.proofs.Lowest.{none-of, holds}
 use Rattle.addition.specs.declared.NewLink.{NewLink}
 use Rattle.addition.specs.NewLink.{Small}
 use Rattle.addition.specs.Addition.{eachMask, masksFit, floatsFinite, addRefusal}

@@ -16,8 +16,8 @@ use Rattle.arm.specs.declared.Arm.{Arm}
 use Rattle.arm.specs.Arm.{couplingsOf, dofCountOf, entriesTo, rowsOf}
 use Rattle.arm.specs.Edits.{modify}
 use Rattle.arm.specs.Agree.{Agree, Sized}
-use Rattle.arm.proofs.Edits.{map-modify}
 use Rattle.arm.proofs.Agree.{same-dofs}
+use Rattle.arm.proofs.Modified.{map-modify}
 use Rattle.kinematics.specs.Blocks.{withPart}
 use Rattle.settled.proofs.Accepted.{accepted}
 use Rattle.addition.specs.declared.NewLink.{NewLink}

@@ -9,8 +9,7 @@ use Rattle.arm.specs.Arm.{liveLinks, linksOf, parentOf, lockedOf, parentsOf, ma
 use Rattle.arm.specs.Edits.{modify}
 use Rattle.arm.specs.HandedIn.{armRefusal}
 use Rattle.arm.specs.Agree.{Agree, Sized}
-use Rattle.arm.proofs.Edits.{take-modify, map-modify-same}
-use Rattle.settled.proofs.Modified.{length-modify}
+use Rattle.arm.proofs.Modified.{length-modify, take-modify, map-modify-same}
 use Rattle.one_link_move.specs.declared.Change.{Change}
 use Rattle.one_link_move.specs.Change.{changed, movedInputs}
 use Rattle.one_link_move.proofs.Changed.{same-parent, same-locked}

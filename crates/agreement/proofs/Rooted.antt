@@ -15,6 +15,7 @@ use Rattle.limits.specs.Limits.{linkLimit, dofLimit}
 use Rattle.floats.specs.Floats.{zero32}
 use Rattle.masks.specs.Masks.{dofsOf}
 use Rattle.masks.specs.Starts.{totalOf}
+use Rattle.masks.proofs.Laws.{fixed-dofs, free-dofs}
 use Rattle.planar.specs.declared.Pose.{Pose}
 use Rattle.arm.specs.declared.Link.{Link}
 use Rattle.arm.specs.declared.Row.{Row}
@@ -23,13 +24,12 @@ use Rattle.arm.specs.Arm.{liveLinks, linksOf, couplingsOf, parentOf, lockedOf, 
 use Rattle.arm.specs.Edits.{modify}
 use Rattle.arm.specs.HandedIn.{armRefusal}
 use Rattle.arm.specs.Agree.{Agree, Sized}
-use Rattle.arm.proofs.Edits.{take-modify, map-modify, map-modify-same}
 use Rattle.arm.proofs.Live.{masks-live, mask-there, dof-count-le}
+use Rattle.arm.proofs.Modified.{length-modify, take-modify, map-modify, map-modify-same}
 use Rattle.kinematics.specs.State.{noLink}
 use Rattle.settled.proofs.Accepted.{accepted}
-use Rattle.settled.proofs.Modified.{length-modify}
 use Rattle.root_change.specs.Root.{rootLink, widened, narrowed, rootRow, rootMask, rootRows, rootChanged}
-use Rattle.root_change.proofs.Settled.{Kind, root-kind, kinds, root-locked, fixed-dofs, free-dofs}
+use Rattle.root_change.proofs.Settled.{Kind, root-kind, kinds, root-locked}
 use Rattle.agreement.proofs.Rows.{of-rows}
 use Rattle.agreement.proofs.Worked.{same-link, Workable, workable}
 

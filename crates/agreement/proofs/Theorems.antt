@@ -8,6 +8,8 @@ use lib.ListN.{length}
 use lib.Ieee.{Float}
 use Rattle.limits.specs.Limits.{tableSize}
 use Rattle.refusal.specs.Refusal.{unlessOf}
+use Rattle.refusal.proofs.Laws.{none-of}
+use Rattle.refusal.proofs.Tests.{holds}
 use Rattle.planar.specs.declared.Pose.{Pose}
 use Rattle.topology.specs.declared.Split.{Split}
 use Rattle.topology.specs.Parents.{marks}
@@ -19,7 +21,6 @@ use Rattle.arm.proofs.Agree.{same-parents, same-mask-at, same-arm-refusal}
 use Rattle.kinematics.specs.State.{marked, only}
 use Rattle.working.specs.Outcome.{tablesFit, workedAll}
 use Rattle.working.specs.Full.{fullRefusal, fullWorking}
-use Rattle.settled.proofs.Lowest.{none-of, holds}
 use Rattle.one_link_move.specs.declared.Change.{Change}
 use Rattle.one_link_move.specs.Move.{moveRefusal, linkMoved}
 use Rattle.addition.specs.declared.NewLink.{NewLink}

@@ -10,7 +10,7 @@ use lib.Dec.{leb}
 use lib.ListN.{take, set, length-set}
 use lib.Ieee.{Float}
 use Rattle.limits.specs.Limits.{linkLimit, couplingLimit}
-use Rattle.refusal.proofs.Tests.{both-hold}
+use Rattle.refusal.proofs.Tests.{both-hold, both}
 use Rattle.floats.specs.Floats.{isFinite}
 use Rattle.masks.specs.Masks.{isAxis}
 use Rattle.arm.specs.declared.Coupling.{Coupling}
@@ -25,7 +25,6 @@ use Rattle.working.specs.Outcome.{out}
 use Rattle.working.specs.Full.{Settled}
 use Rattle.working.proofs.Tests.{holds-in}
 use Rattle.settled.specs.Promise.{Right}
-use Rattle.settled.proofs.Lists.{both}
 use Rattle.settled.proofs.Settles.{facts, nowhere}
 use Rattle.settled.proofs.Right.{Edit}
 use Rattle.always.proofs.Unworked.{still-ready, edit-right}

@@ -7,7 +7,7 @@ use mathlib.Core.List.{List, [], _∷_, map}
 use lib.ListN.{length, take, getD, set, length-set, List·getD-map}
 use lib.Ieee.{Float}
 use Rattle.limits.specs.Limits.{dofLimit}
-use Rattle.refusal.proofs.Tests.{both-hold}
+use Rattle.refusal.proofs.Tests.{both-hold, both}
 use Rattle.floats.specs.Floats.{isFinite, allFinite}
 use Rattle.arm.specs.declared.Row.{Row}
 use Rattle.arm.specs.declared.RowName.{RowName}
@@ -17,13 +17,12 @@ use Rattle.arm.specs.Edits.{modify, dofAt}
 use Rattle.arm.specs.HandedIn.{tagsUnique, parentsEarlier, rootFits, rowsFinite}
 use Rattle.arm.specs.Agree.{Sized}
 use Rattle.arm.proofs.Every.{every-map}
+use Rattle.arm.proofs.Modified.{length-modify, modify-field, modify-every}
 use Rattle.arm_edits.specs.Rows.{writeEntries, writeRefusal, entrySet, withEntry, rowWritten}
 use Rattle.working.specs.Outcome.{out}
 use Rattle.working.specs.Full.{Settled}
 use Rattle.working.proofs.Tests.{holds-in}
 use Rattle.settled.specs.Promise.{Right}
-use Rattle.settled.proofs.Lists.{both}
-use Rattle.settled.proofs.Modified.{length-modify, modify-field, modify-every}
 use Rattle.settled.proofs.Settles.{facts, nowhere}
 use Rattle.settled.proofs.Right.{Edit}
 use Rattle.always.proofs.Unworked.{still-ready, edit-right}

@@ -24,6 +24,7 @@ use Rattle.arm.specs.Arm.{liveLinks, entriesOf}
 use Rattle.arm.specs.Edits.{modify, withLinks}
 use Rattle.arm.specs.Agree.{Sized}
 use Rattle.arm.proofs.Lists.{map-at}
+use Rattle.arm.proofs.Modified.{length-modify, modify-same, modify-other, modify-field}
 use Rattle.kinematics.specs.Link.{withPlace}
 use Rattle.kinematics.specs.State.{State, state, noLink, linkAt, parentOf, inputsOf, putKept, keptOps, every, stateAfter, fineAfter, cleared}
 use Rattle.kinematics.specs.Answers.{passed, refreshAll}
@@ -31,7 +32,6 @@ use Rattle.kinematics.proofs.Pass.{run-view}
 use Rattle.kinematics.proofs.Store.{blank, set-field, after-blank}
 use Rattle.working.specs.Outcome.{Outcome, out, says, unlessRefused, tablesFit, workedBy, workedAll}
 use Rattle.settled.specs.Promise.{Right}
-use Rattle.settled.proofs.Modified.{length-modify, modify-same, modify-other, modify-field}
 use Rattle.one_link_move.specs.declared.Change.{Change}
 use Rattle.one_link_move.specs.declared.Change.the-variants.{Coordinate, Frames, Centre}
 use Rattle.one_link_move.specs.Change.{coordinateSet, changed, movedInputs}

@@ -9,7 +9,7 @@ use lib.ListN.{length, set, length-set}
 use lib.Seq.{take-all}
 use lib.Ieee.{Float}
 use native.Mathlib.Omega.{arith}
-use Rattle.refusal.proofs.Tests.{both-hold}
+use Rattle.refusal.proofs.Tests.{both-hold, both}
 use Rattle.floats.specs.Floats.{isFinite, allFinite}
 use Rattle.masks.specs.Starts.{startOf}
 use Rattle.planar.specs.Poses.{finiteRotation, finitePoint, finitePose}
@@ -23,6 +23,7 @@ use Rattle.arm.specs.Arm.{liveLinks, linksOf}
 use Rattle.arm.specs.Edits.{modify, withLinks}
 use Rattle.arm.specs.HandedIn.{jointFinite, linkFinite, angleFits, linkAngleFits}
 use Rattle.arm.specs.Agree.{Sized}
+use Rattle.arm.proofs.Modified.{length-modify, modify-other, modify-field, modify-tests}
 use Rattle.arm_edits.specs.Springs.{springFinite, springEntries, springRefusal, withJoint, linkSpringSet, withLinkSpring, armSpringSet}
 use Rattle.kinematics.specs.Blocks.{blockAt}
 use Rattle.kinematics.specs.Link.{Kept, Inputs, rootPosed, laterPosed, keptOf, rootKept, laterKept, finiteKept}
@@ -35,8 +36,7 @@ use Rattle.working.specs.Full.{Settled}
 use Rattle.working.proofs.Tests.{standing, holds-in, passes, not-refused, still-passes}
 use Rattle.settled.specs.Promise.{Right}
 use Rattle.settled.proofs.Accepted.{Accepted, accepted, not-refused as none-refused}
-use Rattle.settled.proofs.Lists.{both, same-map}
-use Rattle.settled.proofs.Modified.{length-modify, modify-other, modify-field, modify-tests}
+use Rattle.settled.proofs.Lists.{same-map}
 use Rattle.settled.proofs.Settles.{facts, nowhere}
 use Rattle.settled.proofs.Right.{Edit}
 use Rattle.always.proofs.Unworked.{edit-right}

@@ -1,7 +1,7 @@
 -- A list of tests that gives no refusal: each test holds. And a call's own tests go before the arm's. Assumes nothing.
 use Prim.Native.Nat.{ℕ, suc, _≤_, _<_}
 use mathlib.Core.Path.{_≡_, refl}
-use mathlib.Core.Bool.{Bool, true, false}
+use mathlib.Core.Bool.{Bool, true}
 use mathlib.Core.Logic.{inl, inr}
 use mathlib.Core.List.{List, _∷_}
 use native.Mathlib.Nat.{eq-zero-or-pos}
@@ -10,16 +10,12 @@ use borrow.Author.Tests.{leb-true, ltb-true}
 use Rattle.limits.specs.Limits.{linkLimit, couplingLimit}
 use Rattle.refusal.specs.Refusal.{unlessOf, lowerOf, lowest}
 use Rattle.refusal.proofs.Laws.{is-lowest}
-use Rattle.refusal.proofs.Tests.{both-hold}
+use Rattle.refusal.proofs.Tests.{both-hold, holds}
 use Rattle.arm.specs.declared.Arm.{Arm}
 use Rattle.arm.specs.Arm.{liveLinks, isLink}
 use Rattle.arm.specs.HandedIn.{countsFit, parentsEarlier, couplingsLinksFit, linkNumbersFit, armEntries, armRefusal}
 
 -- ---- any list
-
-holds : (b : Bool) (k : ℕ) → unlessOf b (suc k) ≡ 0 → b ≡ true
-holds true k e = refl
-holds false k e = absurd (omega arith)
 
 pub first-holds : (b : Bool) (k : ℕ) (ks : List ℕ) → lowest (unlessOf b (suc k) ∷ ks) ≡ 0 → b ≡ true
 first-holds b k ks e = holds b k (is-lowest (unlessOf b (suc k) ∷ ks) .none e (unlessOf b (suc k)) (inl refl))

@@ -1,5 +1,5 @@
 -- A test of each of a list, as a loop makes it: what is tested so far, with what is left, is the whole test. Assumes nothing.
-use Prim.Native.Nat.{ℕ, suc, _+_, _≤_, _<_}
+use Prim.Native.Nat.{ℕ, zero, suc, _+_, _≤_, _<_}
 use mathlib.Core.Path.{_≡_, refl, sym, subst, _∙_, ap}
 use mathlib.Core.Bool.{Bool, true, false, _&&_, and-true, and-assoc}
 use mathlib.Core.List.{List, [], _∷_, map}
@@ -7,6 +7,7 @@ use native.Mathlib.Omega.{arith}
 use native.Mathlib.Numerals.{add-one}
 use lib.ListN.{length, take, drop, getD, drop-of-length-le}
 use lib.Seq.{drop-cons, getD-take, length-take-le}
+use Rattle.refusal.proofs.Tests.{both-hold, both}
 use Rattle.arm.specs.HandedIn.{every, isNew, unique}
 
 module _ {A : Type 0} (test : A → Bool) where
@@ -49,6 +50,20 @@ module _ {A : Type 0} (test : A → Bool) where
 
     pub front-all : (i : ℕ) (ok : Bool) → n ≤ i → Tested (take n xs) i ok → ok ≡ every test (take n xs)
     front-all i ok h t = tested-all (take n xs) i ok (omega (arith, length-take-le n xs fits)) t
+
+-- ---- of the list at each place
+
+module _ {A : Type 0} (test : A → Bool) where
+  pub every-at : (xs : List A) (d : A) → every test xs ≡ true → (j : ℕ) → j < length xs → test (getD xs j d) ≡ true
+  unfolding every
+  every-at [] d e j h = absurd (omega arith)
+  every-at (x ∷ xs) d e zero h = both-hold (test x) (every test xs) e .0
+  every-at (x ∷ xs) d e (suc j) h = every-at xs d (both-hold (test x) (every test xs) e .1) j (omega arith)
+
+  pub every-of : (xs : List A) (d : A) → ((j : ℕ) → j < length xs → test (getD xs j d) ≡ true) → every test xs ≡ true
+  unfolding every
+  every-of [] d f = refl
+  every-of (x ∷ xs) d f = both (f 0 (omega arith)) (every-of xs d (λ j h. f (suc j) (omega arith)))
 
 -- ---- of f of each
 

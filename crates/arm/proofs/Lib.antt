@@ -1,6 +1,7 @@
 pub mod Shape
 pub mod Lists
 pub mod Every
+pub mod Modified
 pub mod Live
 pub mod Handed
 pub mod Accepted

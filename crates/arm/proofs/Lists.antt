@@ -24,12 +24,6 @@ module _ {A : Type 0} (s : List A) where
 pub tail : {A : Type 0} (xs : List A) (k : ℕ) → take (length xs - k) (drop k xs) ≡ drop k xs
 tail xs k = take-all (length xs - k) (drop k xs) (simp length-drop (omega arith))
 
--- within a list no default is read
-pub any-default : {A : Type 0} (xs : List A) (i : ℕ) (d e : A) → i < length xs → getD xs i d ≡ getD xs i e
-any-default [] i d e h = absurd (omega arith)
-any-default (x ∷ xs) zero d e h = refl
-any-default (x ∷ xs) (suc i) d e h = any-default xs i d e (omega arith)
-
 -- a part from the front of an array that is known
 pub front : {A : Type 0} {n m : ℕ} (xs ys : List A) → n ≡ m → xs ≡ ys → take (n - 0) xs ≡ take m ys
 front xs ys e f = rw (sub-zero, e, f)

@@ -21,8 +21,8 @@ use Rattle.arm.specs.declared.Arm.{Arm}
 use Rattle.arm.specs.Arm.{liveLinks, linksOf, couplingsOf, lockedOf, masksOf, dofCountOf, rowNumber, entriesTo, rowsOf}
 use Rattle.arm.specs.Edits.{modify, dofAt}
 use Rattle.arm.specs.Agree.{Agree, AlikeEdited, Sized}
-use Rattle.arm.proofs.Edits.{take-modify, map-modify, map-modify-same}
 use Rattle.arm.proofs.Agree.{same-mask-at, same-dof-at, same-entries, alike}
+use Rattle.arm.proofs.Modified.{take-modify, map-modify, map-modify-same}
 use Rattle.arm_edits.specs.declared.NewCoupling.{NewCoupling}
 use Rattle.arm_edits.specs.Rows.{writeRefusal, entrySet, withEntry, rowWritten}
 use Rattle.arm_edits.specs.Springs.{springRefusal, linkSpringSet, withLinkSpring, armSpringSet}

@@ -10,7 +10,7 @@ use Rattle.arm.specs.declared.RowName.{RowName}
 use Rattle.arm.specs.declared.Arm.{Arm}
 use Rattle.arm.specs.Arm.{rowNumber}
 use Rattle.arm.specs.Edits.{withLinks, withRows, dofAt}
-use Rattle.arm.proofs.Edits.{set-modify}
+use Rattle.arm.proofs.Modified.{set-modify}
 use Rattle.arm_edits.specs.Rows.{entrySet, withEntry}
 use Rattle.arm_edits.specs.Springs.{linkSpringSet, withLinkSpring}
 

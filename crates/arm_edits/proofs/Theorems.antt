@@ -18,8 +18,9 @@ use Rattle.arm.specs.Agree.{Sized}
 use Rattle.arm.specs.Words.{FreeAxis, rowIn}
 use Rattle.arm.proofs.Accepted.{live}
 use Rattle.arm.proofs.Live.{links-live}
-use Rattle.arm.proofs.Edits.{map-modify, modify-at, modify-other, row-there, dof-in-row}
+use Rattle.arm.proofs.Edits.{row-there, dof-in-row}
 use Rattle.arm.proofs.Theorems.{accepted-made, dofs-apart}
+use Rattle.arm.proofs.Modified.{map-modify, modify-same, modify-other}
 use Rattle.arm_edits.specs.declared.NewCoupling.{NewCoupling}
 use Rattle.arm_edits.specs.Springs.{springEntries, springRefusal}
 use Rattle.arm_edits.specs.Couplings.{couplingEntries, couplingRefusal}
@@ -65,13 +66,13 @@ module _ (a : Arm) (sized : Sized a) (name : RowName) (link axis : ℕ) (v : Flo
   unfolding rowIn
   here =
       ap (λ (rows : List (List Float)). getD rows (rowNumber name) []) rows-new
-      ∙ modify-at setAt (map entriesOf (a .rows)) (rowNumber name) [] (omega (arith, length-map (a .rows) entriesOf, sized .rows, row-there name))
+      ∙ modify-same setAt (rowNumber name) (map entriesOf (a .rows)) [] (omega (arith, length-map (a .rows) entriesOf, sized .rows, row-there name))
 
   there : (other : RowName) → (rowNumber other ≡ rowNumber name → ⊥) → rowIn new other ≡ rowIn a other
   unfolding rowIn
   there other h =
       ap (λ (rows : List (List Float)). getD rows (rowNumber other) []) rows-new
-      ∙ modify-other setAt (map entriesOf (a .rows)) (rowNumber name) (rowNumber other) [] h
+      ∙ modify-other setAt (rowNumber name) (rowNumber other) (map entriesOf (a .rows)) [] h
 
   in-row : dofAt a link axis < length (rowIn a name)
   unfolding rowIn

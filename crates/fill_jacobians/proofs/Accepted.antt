@@ -12,7 +12,7 @@ use lib.Ieee.{Float}
 use Rattle.limits.specs.Limits.{linkLimit, dofLimit, blockSize, tableSize}
 use Rattle.refusal.specs.Refusal.{unlessOf, In}
 use Rattle.refusal.proofs.Laws.{is-lowest}
-use Rattle.refusal.proofs.Tests.{both-hold}
+use Rattle.refusal.proofs.Tests.{both-hold, holds}
 use Rattle.floats.specs.Floats.{allFinite}
 use Rattle.elimination.proofs.Rows.{part-length}
 use Rattle.arm.specs.declared.Arm.{Arm}
@@ -22,7 +22,7 @@ use Rattle.arm.proofs.Live.{dof-count-le}
 use Rattle.kinematics.specs.Blocks.{blockAt}
 use Rattle.kinematics.proofs.Blocks.{room}
 use Rattle.unit_multibody_joint.specs.Refusals.{memoryFits, massFinite}
-use Rattle.unit_multibody_joint.proofs.Accepted.{holds, Fits, fits}
+use Rattle.unit_multibody_joint.proofs.Accepted.{Fits, fits}
 use Rattle.fill_jacobians.specs.declared.Force.{Force}
 use Rattle.fill_jacobians.specs.Fill.{forceFinite, fillEntries, fillRefusal}
 

@@ -15,11 +15,12 @@ use Rattle.limits.specs.Limits.{dofLimit}
 use Rattle.refusal.proofs.Tests.{both-hold, both}
 use Rattle.floats.specs.Floats.{zero32, isFinite, allFinite}
 use Rattle.floats.proofs.Sticky.{finite-set}
+use Rattle.floats.proofs.FiniteRows.{zeros-finite}
 use Rattle.elimination.specs.Elimination.{row, factored}
 use Rattle.solve.specs.Solve.{exchanged, permuted, lessProducts, forward, backward, Answer, answer, substituted, solution, solveOf}
 use Rattle.solve.proofs.Sticky.{finite-start}
 use Rattle.unit_multibody_joint.specs.Outcome.{orThen}
-use Rattle.unit_multibody_joint.proofs.Answers.{or-first, or-second, take-replicate, zeros-finite}
+use Rattle.unit_multibody_joint.proofs.Answers.{or-first, or-second, take-replicate}
 use Rattle.unit_multibody_joint.proofs.Solved.{trouble-is}
 use Rattle.fill_jacobians.specs.Sums.{wildRefusal}
 

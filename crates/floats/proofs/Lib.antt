@@ -1,4 +1,5 @@
 pub mod Rows
+pub mod FiniteRows
 pub mod Sticky
 pub mod Zeros
 pub mod Tests

@@ -53,11 +53,11 @@ overlaid-whole [] (y ∷ ys) e = absurd (omega arith)
 overlaid-whole (x ∷ xs) [] e = absurd (omega arith)
 overlaid-whole (x ∷ xs) (y ∷ ys) e = ap (λ (l : List Float). y ∷ l) (overlaid-whole xs ys (omega arith))
 
--- within a row no default is read
-pub same-default : (row : List Float) (k : ℕ) (d e : Float) → k < length row → getD row k d ≡ getD row k e
-same-default [] k d e h = absurd (omega arith)
-same-default (x ∷ row) zero d e h = refl
-same-default (x ∷ row) (suc k) d e h = same-default row k d e (omega arith)
+-- within a list no default is read
+pub any-default : {A : Type 0} (xs : List A) (i : ℕ) (d e : A) → i < length xs → getD xs i d ≡ getD xs i e
+any-default [] i d e h = absurd (omega arith)
+any-default (x ∷ xs) zero d e h = refl
+any-default (x ∷ xs) (suc i) d e h = any-default xs i d e (omega arith)
 
 -- laid over: the front of s, as far as d goes, then the rest of d
 pub overlaid-parts : (d s : List Float) → zipTo second d s ≡ take (length d) s ++ drop (length s) d

@@ -32,7 +32,7 @@ all-fresh ls n t f = every-fresh ls (f .places) n (f .few) t (f .long)
 
 -- ---- what is kept, with the inputs, is the link and its block
 
-link-back : (m g : State) (j : ℕ) → blank (linkAt (m .links) j) ≡ blank (linkAt (g .links) j) → keptAt m j ≡ keptAt g j → linkAt (m .links) j ≡ linkAt (g .links) j
+pub link-back : (m g : State) (j : ℕ) → blank (linkAt (m .links) j) ≡ blank (linkAt (g .links) j) → keptAt m j ≡ keptAt g j → linkAt (m .links) j ≡ linkAt (g .links) j
 unfolding keptAt withPlace
 link-back m g j e k = ap₂ withKept e k
 

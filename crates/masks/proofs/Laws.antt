@@ -4,7 +4,7 @@ use mathlib.Core.Path.{_≡_, refl, ap}
 use mathlib.Core.Bool.{Bool, true, false}
 use native.Mathlib.Omega.{arith}
 use borrow.Author.Tests.{lt-leb}
-use Rattle.masks.specs.Masks.{one, isFree, dofsBelow, dofsOf}
+use Rattle.masks.specs.Masks.{one, isFree, dofsBelow, dofsOf, bitOf}
 
 pub one-le : (b : Bool) → one b ≤ 1
 one-le true = omega arith
@@ -34,6 +34,15 @@ below-past m zero = refl
 below-past m (suc k) = omega (arith, below-past m k, ap one (no-axis m (suc (suc (suc k))) (omega arith)))
 
 -- ---- in all
+
+-- a fixed root has none, a free one all
+pub fixed-dofs : dofsOf 7 ≡ 0
+unfolding dofsOf dofsBelow isFree bitOf
+fixed-dofs = refl
+
+pub free-dofs : dofsOf 0 ≡ 3
+unfolding dofsOf dofsBelow isFree bitOf
+free-dofs = refl
 
 pub dofs-le : (m : ℕ) → dofsOf m ≤ 3
 unfolding dofsOf

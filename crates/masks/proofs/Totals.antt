@@ -12,10 +12,14 @@ use Rattle.masks.specs.Masks.{dofsOf}
 use Rattle.masks.specs.Starts.{totalOf, startOf, startsTo}
 use Rattle.masks.proofs.Laws.{dofs-le}
 
+pub total-join : (xs ys : List ℕ) → totalOf (xs ++ ys) ≡ totalOf xs + totalOf ys
+unfolding totalOf
+total-join [] ys = omega arith
+total-join (x ∷ xs) ys = omega (arith, total-join xs ys)
+
 pub total-snoc : (ms : List ℕ) (m : ℕ) → totalOf (ms ++ (m ∷ [])) ≡ totalOf ms + dofsOf m
 unfolding totalOf
-total-snoc [] m = omega arith
-total-snoc (k ∷ ms) m = omega (arith, total-snoc ms m)
+total-snoc ms m = omega (arith, total-join ms (m ∷ []))
 
 -- at most three for each mask
 pub total-le : (ms : List ℕ) → totalOf ms ≤ 3 * length ms

@@ -8,7 +8,7 @@ use lib.Dec.{eqb, ltb}
 use lib.ListN.{getD, set}
 use lib.Seq.{getD-set-other}
 use lib.Ieee.{Float, nan}
-use Rattle.refusal.proofs.Tests.{both-hold}
+use Rattle.refusal.proofs.Tests.{both-hold, both}
 use Rattle.floats.specs.Floats.{isFinite, allFinite}
 use Rattle.planar.specs.declared.Rotation.{Rotation}
 use Rattle.planar.specs.Rotation.{rotationAt, isBeyond}
@@ -19,7 +19,6 @@ use Rattle.multibody_joint.specs.Joint.{withMotion}
 use Rattle.arm.specs.declared.Link.{Link}
 use Rattle.arm.specs.HandedIn.{jointMasksFit, linkMasksFit, jointFinite, linkFinite, angleFits, linkAngleFits}
 use Rattle.kinematics.specs.Link.{Kept}
-use Rattle.settled.proofs.Lists.{both}
 use Rattle.one_link_move.specs.declared.Change.{Change}
 use Rattle.one_link_move.specs.declared.Change.the-variants.{Coordinate, Frames, Centre}
 use Rattle.one_link_move.specs.Change.{coordinateSet, withFrames, withInputs, changed}

@@ -11,8 +11,8 @@ use lib.Dec.{eqb, leb}
 use lib.ListN.{length, take, getD, List·getD-eq-default}
 use lib.Seq.{getD-take}
 use Rattle.limits.specs.Limits.{linkLimit}
+use Rattle.floats.proofs.Rows.{any-default}
 use Rattle.topology.specs.Tables.{allBelow}
-use Rattle.arm.proofs.Lists.{any-default}
 use Rattle.topology.specs.Parents.{parentOf, atOrBelow, marks}
 use Rattle.topology.proofs.Tables.{length-each, getD-each, all-at}
 use Rattle.topology.proofs.Branch.{mark-none, mark-alone, mark-more}

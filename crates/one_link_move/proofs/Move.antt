@@ -11,7 +11,8 @@ use borrow.Author.Tests.{ltb-true}
 use lib.Dec.{ltb}
 use lib.ListN.{length}
 use lib.Ieee.{Float}
-use Rattle.refusal.proofs.Tests.{both-hold}
+use Rattle.refusal.proofs.Tests.{both-hold, holds}
+use Rattle.refusal.proofs.Laws.{none-of}
 use Rattle.planar.specs.Poses.{finiteRotation}
 use Rattle.masks.specs.Starts.{totalOf, startOf}
 use Rattle.floats.specs.Floats.{allFinite}
@@ -27,6 +28,7 @@ use Rattle.arm.specs.Edits.{modify, withLinks}
 use Rattle.limits.specs.Limits.{linkLimit}
 use Rattle.arm.specs.HandedIn.{every, unique, tagsUnique, parentsEarlier, linkMasksFit, rootMaskFits, rootFits, linkFinite, rowsFinite, linkAngleFits, armRefusal}
 use Rattle.arm.proofs.Accepted.{counts-accepted}
+use Rattle.arm.proofs.Modified.{length-modify, modify-same, modify-other, modify-field, modify-tests}
 use Rattle.kinematics.specs.Blocks.{blockAt}
 use Rattle.kinematics.specs.Link.{finiteKept}
 use Rattle.kinematics.specs.State.{state, noLink, linkAt, parentOf, lockedOf, inputsOf, keptAt, keptOps, marked}
@@ -35,11 +37,9 @@ use Rattle.working.specs.Full.{Settled}
 use Rattle.settled.specs.Above.{aboveFinite}
 use Rattle.kinematics.specs.Promises.{Fresh, Ready}
 use Rattle.arm.specs.Agree.{Sized}
-use Rattle.settled.proofs.Lowest.{none-of, holds}
 use Rattle.settled.proofs.Accepted.{Accepted}
 use Rattle.settled.proofs.Lists.{same-map, same-front, same-tests}
 use Rattle.settled.proofs.Parents.{parents-count, parent-of, parent-le}
-use Rattle.settled.proofs.Modified.{length-modify, modify-same, modify-other, modify-field, modify-tests}
 use Rattle.settled.proofs.Settles.{allFine, Facts, facts}
 use Rattle.settled.proofs.Sticky.{rotations-finite}
 use Rattle.settled.proofs.Right.{Edit, right}

@@ -11,7 +11,7 @@ use Rattle.multibody_joint.specs.Joint.{withMotion}
 use Rattle.arm.specs.declared.Link.{Link}
 use Rattle.arm.specs.declared.Arm.{Arm}
 use Rattle.arm.specs.Edits.{withLinks}
-use Rattle.arm.proofs.Edits.{set-modify}
+use Rattle.arm.proofs.Modified.{set-modify}
 use Rattle.one_link_move.specs.declared.Change.{Change}
 use Rattle.one_link_move.specs.Change.{coordinateSet, changed, movedInputs}
 

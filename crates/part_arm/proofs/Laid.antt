@@ -1,16 +1,12 @@
 -- A list gathered into blank places, one turn after the other: what is gathered stands in front, and the next place is its length. Assumes nothing.
-use Prim.Native.Nat.{ℕ, zero, suc, _+_, _-_, _≤_, _<_}
+use Prim.Native.Nat.{ℕ, zero, suc, _+_, _≤_, _<_}
 use mathlib.Core.Path.{_≡_, refl, sym, ap, _∙_}
 use mathlib.Core.Bool.{Bool, true, false, cond}
 use mathlib.Core.List.{List, [], _∷_, _++_, append-nil, append-assoc}
 use native.Mathlib.Omega.{arith}
 use native.Mathlib.Numerals.{add-one}
 use lib.ListN.{length, take, drop, set, length-append, length-drop}
-use lib.Ieee.{Float}
-use lib.Seq.{drop-cons, set-at, take-at, drop-append-add, drop-drop, length-take-le}
-use Rattle.floats.specs.Floats.{overlaid}
-use Rattle.kinematics.specs.Blocks.{part, withPart}
-use Rattle.kinematics.proofs.Blocks.{copied-in}
+use lib.Seq.{drop-cons, set-at, take-at, drop-append-add, drop-drop}
 use Rattle.topology.specs.Tables.{oneMore, countBelow}
 use Rattle.topology.proofs.Tables.{count-le}
 use Rattle.part_arm.specs.Gathered.{gathered, chosen, laidOver}
@@ -87,13 +83,3 @@ module _ {A : Type 0} (test : ℕ → Bool) (f : ℕ → A) where
 
   pub chosen-le : (n : ℕ) → length (chosen n test f) ≤ n
   chosen-le n = omega (arith, length-chosen n, count-le test n)
-
--- ---- entries copied from one row into another
-
-pub copied-over : (at from n : ℕ) (s r z : List Float) → at + n ≤ length s → from + n ≤ length r
-    → z ≡ overlaid (take ((at + n) - at) (drop at s)) (take ((from + n) - from) (drop from r))
-    → take at s ++ (z ++ drop ((at + n) - at) (drop at s)) ≡ withPart at n (part from n r) s
-copied-over at from n s r z h g q =
-    let k : (from + n) - from ≡ n = omega arith in
-    copied-in at n s (part from n r) z h (length-take-le n (drop from r) (rw length-drop (omega arith)))
-    (q ∙ ap (λ (m : ℕ). overlaid (take ((at + n) - at) (drop at s)) (take m (drop from r))) k)

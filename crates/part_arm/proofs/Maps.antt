@@ -1,27 +1,23 @@
 -- What is read of a split map, within it and past it. Assumes nothing.
-use Prim.Native.Nat.{ℕ, zero, suc, _+_, _*_, _≤_, _<_}
-use mathlib.Core.Path.{_≡_, refl, sym}
-use mathlib.Core.List.{List, [], _∷_}
+use Prim.Native.Nat.{ℕ, _+_, _*_, _≤_, _<_}
+use mathlib.Core.Path.{_≡_, sym}
+use mathlib.Core.List.{List}
 use native.Mathlib.Omega.{arith}
 use lib.ListN.{length, getD, List·getD-eq-default}
 use Rattle.limits.specs.Limits.{linkLimit}
+use Rattle.floats.proofs.Rows.{any-default}
 use Rattle.topology.specs.Split.{gone}
 use Rattle.part_arm.specs.Places.{partIn, numberIn}
 
 -- within a list no default is read
-pub same-default : (l : List ℕ) (i d e : ℕ) → i < length l → getD l i d ≡ getD l i e
-same-default [] i d e h = absurd (omega arith)
-same-default (x ∷ l) zero d e h = refl
-same-default (x ∷ l) (suc i) d e h = same-default l i d e (omega arith)
-
 module _ (map : List ℕ) (whole : length map ≡ 2 * linkLimit) (j : ℕ) where
   pub part-there : j < linkLimit → getD map (2 * j) 0 ≡ partIn map j
   unfolding partIn
-  part-there h = same-default map (2 * j) 0 gone (omega arith)
+  part-there h = any-default map (2 * j) 0 gone (omega arith)
 
   pub number-there : j < linkLimit → getD map (2 * j + 1) 0 ≡ numberIn map j
   unfolding numberIn
-  number-there h = same-default map (2 * j + 1) 0 gone (omega arith)
+  number-there h = any-default map (2 * j + 1) 0 gone (omega arith)
 
   pub part-past : linkLimit ≤ j → gone ≡ partIn map j
   unfolding partIn

@@ -12,21 +12,23 @@ use Rattle.refusal.proofs.Tests.{both-hold}
 use Rattle.topology.specs.declared.Split.{Split}
 use Rattle.topology.specs.Parents.{parentOf}
 use Rattle.topology.specs.Split.{isHead, partCount, isIn, splitMap}
-use Rattle.topology.proofs.Theorems.{with-parent}
+use Rattle.topology.proofs.Theorems.{with-parent, in-part}
 use Rattle.arm.specs.declared.Arm.{Arm}
 use Rattle.arm.specs.Arm.{liveLinks, linksOf, couplingsOf, parentsOf}
 use Rattle.arm.specs.Arm as arm-specs
 use Rattle.arm.specs.HandedIn.{couplingLinksFit, parentsEarlier, couplingsLinksFit, armRefusal}
 use Rattle.arm.proofs.Lists.{map-at}
+use Rattle.arm.proofs.Live.{parents-live}
+use Rattle.arm.proofs.Every.{every-at}
 use Rattle.kinematics.specs.State.{linkAt, noLink}
 use Rattle.part_arm.specs.Places.{placesOf, placesIn}
 use Rattle.part_arm.specs.Part.{noCoupling, couplingAt, partArm}
-use Rattle.parts.proofs.Heads.{in-survives, in-part, is-in, here-read, number-read, head-read}
+use Rattle.parts.proofs.Heads.{in-survives, is-in, here-read, number-read, head-read}
 use Rattle.parts.proofs.Same.{Agree, part-same}
-use Rattle.parts.proofs.Refused.{parents-live, Whole, accepted-whole, part-accepted, part-map}
+use Rattle.parts.proofs.Refused.{Whole, accepted-whole, part-accepted, part-map}
 use Rattle.working.specs.Outcome.{workedAll}
 use Rattle.working.proofs.Refused.{accepted as go-on}
-use Rattle.working.proofs.Tests.{passes, each-passes}
+use Rattle.working.proofs.Tests.{passes}
 use Rattle.parts.specs.Answers.{partRefusal, armPart}
 use Rattle.topology.specs.declared.Counted.{Counted}
 use Rattle.topology.specs.Answers.{out as mapped, splitAnswer}
@@ -44,7 +46,7 @@ module _ (a : Arm) (whole : length (a .links) ≡ linkLimit) (all : length (a .c
   coupling-links e i h =
       let fits = both-hold (parentsEarlier a) (couplingsLinksFit a) (passes a e .numbers) .1 in
       let n = min (a .«coupling_count») couplingLimit in
-      let one = each-passes (couplingLinksFit (a .«link_count»)) (take n (a .couplings)) noCoupling fits i (omega (arith, length-take-le n (a .couplings) (omega arith))) in
+      let one = every-at (couplingLinksFit (a .«link_count»)) (take n (a .couplings)) noCoupling fits i (omega (arith, length-take-le n (a .couplings) (omega arith))) in
       let both = both-hold _ _ (rw (getD-take n (a .couplings) i noCoupling h) at one) in
       (ltb-true _ _ (both .0), ltb-true _ _ (both .1))
 
@@ -53,16 +55,16 @@ module _ (a : Arm) (whole : length (a .links) ≡ linkLimit) (all : length (a .c
         → (linkAt (a .links) j .parent < liveLinks a) × (isIn (parentsOf a) s k (linkAt (a .links) j .parent) ≡ true)
     here-too j h e f =
         let ps = parentsOf a in
-        let n = parents-live a whole s in
+        let n = parents-live a whole in
         let v = with-parent ps s (w .fit) j (omega arith, in-survives ps s (w .fit) k j e) f in
         let here : isIn ps s k (parentOf ps j) ≡ true =
-        subst (λ (q : ℕ). isIn ps s q (parentOf ps j) ≡ true) (sym (v .same-part) ∙ in-part ps s (w .fit) k j e) (is-in ps s (w .fit) (parentOf ps j) (v .survivor .1)) in
+        subst (λ (q : ℕ). isIn ps s q (parentOf ps j) ≡ true) (sym (v .same-part) ∙ in-part ps s k j e) (is-in ps s (w .fit) (parentOf ps j) (v .survivor .1)) in
         rw (← link-parent j h) (omega (arith, v .survivor .0), here)
 
     agree : Agree a (placesIn (splitMap (parentsOf a) s (length (parentsOf a)) ++ rest) k) (placesOf a s k)
     agree =
         let ps = parentsOf a in
-        let n = parents-live a whole s in
+        let n = parents-live a whole in
         let few : length ps ≤ linkLimit = omega arith in
         record {
           here = λ j h. here-read ps s (w .fit) k below few rest j (omega arith);

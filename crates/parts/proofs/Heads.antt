@@ -4,11 +4,12 @@ use mathlib.Core.Path.{_≡_, refl, sym, ap, _∙_}
 use mathlib.Core.Bool.{Bool, true, false, cond, _&&_}
 use mathlib.Core.List.{List, _++_}
 use native.Mathlib.Omega.{arith}
-use borrow.Author.Tests.{eqb-true, eq-eqb, ne-eqb}
+use borrow.Author.Tests.{eq-eqb, ne-eqb}
 use lib.Dec.{eqb}
 use lib.ListN.{length, List·getD-append}
 use Rattle.limits.specs.Limits.{linkLimit}
 use Rattle.refusal.proofs.Tests.{both-hold}
+use Rattle.floats.proofs.Rows.{any-default}
 use Rattle.topology.specs.declared.Split.{Split}
 use Rattle.topology.specs.Tables.{oneMore, countBelow}
 use Rattle.topology.specs.Parents.{parentOf, parentsFit}
@@ -19,9 +20,8 @@ use Rattle.topology.proofs.Fitting.{earlier}
 use Rattle.topology.proofs.Pass.{part-head}
 use Rattle.topology.proofs.Mapped.{map-length}
 use Rattle.topology.proofs.Above.{above-le}
-use Rattle.topology.proofs.Theorems.{map-at, with-parent, nearest-head}
+use Rattle.topology.proofs.Theorems.{map-at, with-parent, nearest-head, in-part}
 use Rattle.part_arm.specs.Places.{partIn, numberIn, hereIn, headIn}
-use Rattle.part_arm.proofs.Maps.{same-default}
 
 none-below : (n : ℕ) (test : ℕ → Bool) → ((j : ℕ) → j < n → test j ≡ true → ⊥) → countBelow n test ≡ 0
 unfolding countBelow
@@ -37,10 +37,6 @@ module _ (ps : List ℕ) (s : Split) (fit : parentsFit ps ≡ true) where
   unfolding isIn
   in-survives q j e = both-hold (survives s j) _ e .0
 
-  pub in-part : (q j : ℕ) → isIn ps s q j ≡ true → partOf ps s j ≡ q
-  unfolding isIn
-  in-part q j e = eqb-true (partOf ps s j) q (both-hold (survives s j) _ e .1)
-
   pub is-in : (j : ℕ) → survives s j ≡ true → isIn ps s (partOf ps s j) j ≡ true
   unfolding isIn
   is-in j a = rw (a, eq-eqb (partOf ps s j) (partOf ps s j) refl)
@@ -52,7 +48,7 @@ module _ (ps : List ℕ) (s : Split) (fit : parentsFit ps ≡ true) where
       (let v : Survivor ps s i = (omega arith, in-survives (partOf ps s j) i q) in
       let n = nearest-head ps s fit i v in
       let near = above-le (parentOf ps) (length ps) (earlier ps fit) (n .there) (omega arith) in
-      let same : countBelow (nearestHead ps s i) (isHead ps s) ≡ countBelow j (isHead ps s) = in-part (partOf ps s j) i q ∙ part-head ps s j h e in
+      let same : countBelow (nearestHead ps s i) (isHead ps s) ≡ countBelow j (isHead ps s) = in-part ps s (partOf ps s j) i q ∙ part-head ps s j h e in
       let less = count-lt (isHead ps s) (nearestHead ps s i) j (omega arith) (n .head-there) in
       omega arith))
 
@@ -77,7 +73,7 @@ module _ (ps : List ℕ) (s : Split) (fit : parentsFit ps ≡ true) where
     reads-part j h =
         let long = map-length ps s (length ps) in
         List·getD-append (splitMap ps s (length ps)) rest gone (2 * j) (omega arith)
-        ∙ same-default (splitMap ps s (length ps)) (2 * j) gone 0 (omega arith)
+        ∙ any-default (splitMap ps s (length ps)) (2 * j) gone 0 (omega arith)
         ∙ map-at ps s (length ps) j h .0
 
     reads-number : (j : ℕ) → j < length ps → numberIn map j ≡ numberByte ps s j
@@ -85,7 +81,7 @@ module _ (ps : List ℕ) (s : Split) (fit : parentsFit ps ≡ true) where
     reads-number j h =
         let long = map-length ps s (length ps) in
         List·getD-append (splitMap ps s (length ps)) rest gone (2 * j + 1) (omega arith)
-        ∙ same-default (splitMap ps s (length ps)) (2 * j + 1) gone 0 (omega arith)
+        ∙ any-default (splitMap ps s (length ps)) (2 * j + 1) gone 0 (omega arith)
         ∙ map-at ps s (length ps) j h .1
 
     pub here-read : (j : ℕ) → j < length ps → hereIn (splitMap ps s (length ps) ++ rest) k j ≡ isIn ps s k j

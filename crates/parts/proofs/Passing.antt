@@ -7,12 +7,13 @@ use mathlib.Core.List.{List, [], _∷_, _++_, map}
 use native.Mathlib.Omega.{arith}
 use borrow.Author.Tests.{le-leb, lt-ltb}
 use lib.Dec.{leb}
-use lib.ListN.{length, take, drop, getD, replicate, length-map}
+use lib.ListN.{length, take, drop, getD, length-map}
 use lib.Seq.{take-at, getD-take, length-take-le}
 use lib.Ieee.{Float, lt, ofBits}
 use Rattle.limits.specs.Limits.{linkLimit, couplingLimit, dofLimit}
 use Rattle.refusal.proofs.Tests.{both-hold, both}
-use Rattle.floats.specs.Floats.{zero32, isFinite, allFinite}
+use Rattle.floats.specs.Floats.{allFinite}
+use Rattle.floats.proofs.FiniteRows.{zeros-finite, finite-join, finite-take, finite-drop}
 use Rattle.masks.specs.Masks.{dofsOf}
 use Rattle.masks.specs.Starts.{totalOf, startOf}
 use Rattle.masks.proofs.Totals.{start-in}
@@ -21,7 +22,7 @@ use Rattle.topology.specs.Tables.{each, countBelow}
 use Rattle.topology.specs.Parents.{parentOf, parentFits, parentsFit}
 use Rattle.topology.specs.Split.{isHead, isIn, numberOf}
 use Rattle.topology.proofs.Tables.{count-lt, count-at, all-below}
-use Rattle.topology.proofs.Theorems.{with-parent}
+use Rattle.topology.proofs.Theorems.{with-parent, in-part}
 use Rattle.planar.specs.declared.Pose.{Pose}
 use Rattle.planar.specs.Rotation.{isBeyond}
 use Rattle.planar.specs.Poses.{finiteRotation, finitePoint, finitePose, rotationOf, translationOf}
@@ -34,19 +35,20 @@ use Rattle.arm.specs.Arm.{liveLinks, linksOf, couplingsOf, tagOf, lockedOf, tag
 use Rattle.arm.specs.Arm as arm-specs
 use Rattle.arm.specs.HandedIn.{every, unique, tagsUnique, parentsEarlier, couplingLinksFit, jointMasksFit, linkMasksFit, rootMaskFits, rootFits, couplingAxesFit, jointFinite, linkFinite, couplingFinite, rowsFinite, angleFits, linkAngleFits, armRefusal}
 use Rattle.arm.proofs.Lists.{map-at}
-use Rattle.arm.proofs.Live.{links-live, masks-live}
+use Rattle.arm.proofs.Live.{links-live, masks-live, parents-live}
+use Rattle.arm.proofs.Every.{every-at}
 use Rattle.kinematics.specs.State.{linkAt, noLink}
 use Rattle.kinematics.proofs.Blocks.{take-drop-take}
 use Rattle.working.specs.Empty.{blankRow}
-use Rattle.working.proofs.Tests.{Passes, passes, not-refused, each-passes, link-passes}
+use Rattle.working.proofs.Tests.{Passes, passes, not-refused, link-passes}
 use Rattle.part_arm.specs.Gathered.{gathered, chosen, laidOver}
 use Rattle.part_arm.specs.Places.{Places, placesOf, goesOn}
 use Rattle.part_arm.specs.Part.{newLink, partLinks, ownEntries, partEntries, partRow, noCoupling, couplingAt, couplingStays, newCoupling, partCouplings, partArm}
 use Rattle.part_arm.proofs.Laid.{chosen-le, length-chosen}
 use Rattle.parts.specs.Words.{Sized, PartPasses}
-use Rattle.parts.proofs.Heads.{in-survives, in-part, head-first, first-head}
+use Rattle.parts.proofs.Heads.{in-survives, head-first, first-head}
 use Rattle.parts.proofs.Same.{gathered-same}
-use Rattle.parts.proofs.Refused.{parents-live, Whole, accepted-whole}
+use Rattle.parts.proofs.Refused.{Whole, accepted-whole}
 use Rattle.parts.proofs.Chosen.{link-parent, coupling-links}
 use Rattle.parts.proofs.Picked.{every-chosen, chosen-at, map-chosen, some-unique, is-each}
 
@@ -99,29 +101,10 @@ root-seven (m ∷ ms) h = rw (h (omega arith))
 
 -- ---- finite entries
 
-finite-join : (xs ys : List Float) → allFinite xs ≡ true → allFinite ys ≡ true → allFinite (xs ++ ys) ≡ true
-finite-join [] ys e f = f
-finite-join (x ∷ xs) ys e f = let h = both-hold (isFinite x) (allFinite xs) e in both (h .0) (finite-join xs ys (h .1) f)
-
-finite-take : (n : ℕ) (xs : List Float) → allFinite xs ≡ true → allFinite (take n xs) ≡ true
-finite-take zero xs e = refl
-finite-take (suc n) [] e = refl
-finite-take (suc n) (x ∷ xs) e = let h = both-hold (isFinite x) (allFinite xs) e in both (h .0) (finite-take n xs (h .1))
-
-finite-drop : (n : ℕ) (xs : List Float) → allFinite xs ≡ true → allFinite (drop n xs) ≡ true
-finite-drop zero xs e = e
-finite-drop (suc n) [] e = refl
-finite-drop (suc n) (x ∷ xs) e = finite-drop n xs (both-hold (isFinite x) (allFinite xs) e .1)
-
 finite-gathered : (n : ℕ) (f : ℕ → List Float) → ((j : ℕ) → j < n → allFinite (f j) ≡ true) → allFinite (gathered n f) ≡ true
 unfolding gathered
 finite-gathered zero f h = refl
 finite-gathered (suc n) f h = finite-join (gathered n f) (f n) (finite-gathered n f (λ j l. h j (omega arith))) (h n (omega arith))
-
-zeros-finite : (n : ℕ) → allFinite (replicate n zero32) ≡ true
-unfolding ofBits
-zeros-finite zero = refl
-zeros-finite (suc n) = zeros-finite n
 
 -- ---- a part's lists
 
@@ -165,7 +148,7 @@ module _ (a : Arm) (s : Split) (k : ℕ) (sized : Sized a) (accepted : armRefusa
   whole = accepted-whole a (sized .links) s accepted
 
   long : length ps ≡ n
-  long = parents-live a (sized .links) s
+  long = parents-live a (sized .links)
 
   before : Passes a
   before = passes a accepted
@@ -179,7 +162,7 @@ module _ (a : Arm) (s : Split) (k : ℕ) (sized : Sized a) (accepted : armRefusa
 
   number-is : (j : ℕ) → isIn ps s k j ≡ true → numberOf ps s j ≡ countBelow j (isIn ps s k)
   unfolding numberOf
-  number-is j e = ap (λ (q : ℕ). countBelow j (isIn ps s q)) (in-part ps s (whole .fit) k j e)
+  number-is j e = ap (λ (q : ℕ). countBelow j (isIn ps s q)) (in-part ps s k j e)
 
   -- who stands at a place of the part
   record Stands (i : ℕ) : Type 0 where
@@ -301,7 +284,7 @@ module _ (a : Arm) (s : Split) (k : ℕ) (sized : Sized a) (accepted : armRefusa
   coupling-passed test e i h =
       let m = min (a .«coupling_count») couplingLimit in
       sym (ap test (getD-take m (a .couplings) i noCoupling h))
-      ∙ each-passes test (take m (a .couplings)) noCoupling e i (omega (arith, length-take-le m (a .couplings) (omega (arith, sized .couplings))))
+      ∙ every-at test (take m (a .couplings)) noCoupling e i (omega (arith, length-take-le m (a .couplings) (omega (arith, sized .couplings))))
 
   -- ---- 5
 

@@ -7,7 +7,7 @@ use mathlib.Core.List.{List, [], _∷_, _++_}
 use native.Mathlib.Omega.{arith}
 use borrow.Author.Tests.{leb-true, ltb-true, le-leb, le-ltb, lt-ltb}
 use lib.Dec.{leb, ltb}
-use lib.ListN.{length, drop, length-map}
+use lib.ListN.{length, drop}
 use lib.Ieee.{Float}
 use Rattle.limits.specs.Limits.{linkLimit}
 use Rattle.refusal.specs.Refusal.{unlessOf, lowerOf, In}
@@ -21,9 +21,9 @@ use Rattle.topology.proofs.Refused.{half}
 use Rattle.working.specs.Outcome.{tablesFit}
 use Rattle.topology.specs.Answers.{Outcome, out, given, refusalOf, splitAnswer}
 use Rattle.arm.specs.declared.Arm.{Arm}
-use Rattle.arm.specs.Arm.{liveLinks, linksOf, parentOf, parentsOf}
+use Rattle.arm.specs.Arm.{liveLinks, parentsOf}
 use Rattle.arm.specs.HandedIn.{countsFit, parentsEarlier, armEntries, armRefusal}
-use Rattle.arm.proofs.Live.{links-live}
+use Rattle.arm.proofs.Live.{parents-live}
 use Rattle.arm.proofs.Accepted.{first-holds, rest-accepted}
 use Rattle.parts.specs.Answers.{splitRefusal, armSplit, partRefusal}
 
@@ -69,10 +69,6 @@ twice false zero = refl
 twice false (suc r) = both 4 (min 4 (suc r)) (λ z. omega arith) (λ z. omega arith) ∙ omega arith
 
 module _ (a : Arm) (whole : length (a .links) ≡ linkLimit) (s : Split) where
-  pub parents-live : length (parentsOf a) ≡ liveLinks a
-  unfolding parentsOf
-  parents-live = length-map (linksOf a) parentOf ∙ links-live a whole
-
   -- refused by no more than 4
   Low : Type 0
   Low = (armRefusal a ≡ 0 → ⊥) × (armRefusal a ≤ 4)
@@ -113,7 +109,7 @@ module _ (a : Arm) (whole : length (a .links) ≡ linkLimit) (s : Split) where
       → refusalOf (parentsOf a) (linkOf s) (leb (2 * length (parentsOf a)) (length m)) ≡ unlessOf (ltb (linkOf s) (length (parentsOf a)) && parentsFit (parentsOf a)) 4
   unfolding refusalOf lowerOf
   bare-refusal m h =
-      let n = parents-live in
+      let n = parents-live a whole in
       rw (le-leb (2 * length (parentsOf a)) (length m) (omega arith), le-leb (length (parentsOf a)) linkLimit (omega arith))
       (go (ltb (linkOf s) (length (parentsOf a))) (parentsFit (parentsOf a)))
     where
@@ -133,7 +129,7 @@ module _ (a : Arm) (whole : length (a .links) ≡ linkLimit) (s : Split) where
     split-tests = elim either [
       | inl l ↦ rw refused-by (absorbed (ltb (linkOf s) (length (parentsOf a)) && parentsFit (parentsOf a)) (armRefusal a) (l .0) (l .1) ∙ sym (absorbed (ltb (linkOf s) (a .«link_count»)) (armRefusal a) (l .0) (l .1)))
       | inr w ↦
-          let n : length (parentsOf a) ≡ a .«link_count» = parents-live ∙ omega (arith, w .few) in
+          let n : length (parentsOf a) ≡ a .«link_count» = parents-live a whole ∙ omega (arith, w .few) in
           rw (refused-by, n, w .fit, and-true)
     ]
 
@@ -147,7 +143,7 @@ module _ (a : Arm) (whole : length (a .links) ≡ linkLimit) (s : Split) where
           let ab : (b : Bool) → lowerOf (unlessOf b 4) (armRefusal a) ≡ armRefusal a = λ b. absorbed b (armRefusal a) (l .0) (l .1) in
           ab (ltb k (r .count)) ∙ sym (ap (lowerOf (unlessOf (ltb (linkOf s) (a .«link_count»)) 4)) (ab (ltb k (partCount (parentsOf a) s))) ∙ ab (ltb (linkOf s) (a .«link_count»)))
       | inr w ↦
-          let n : length (parentsOf a) ≡ a .«link_count» = parents-live ∙ omega (arith, w .few) in
+          let n : length (parentsOf a) ≡ a .«link_count» = parents-live a whole ∙ omega (arith, w .few) in
           counted w (ltb (linkOf s) (a .«link_count»)) (ap (ltb (linkOf s)) n)
     ]
       where
@@ -184,7 +180,7 @@ module _ (a : Arm) (whole : length (a .links) ≡ linkLimit) (s : Split) where
   unfolding splitAnswer refusalOf lowerOf
   bare-answer m x h =
       let w = accepted-whole (x .arm) in
-      let n = parents-live in
+      let n = parents-live a whole in
       let l = x .link in
       let few = w .few in
       rw (le-leb (2 * length (parentsOf a)) (length m) (omega arith), le-leb (length (parentsOf a)) linkLimit (omega arith), lt-ltb (linkOf s) (length (parentsOf a)) (omega arith), w .fit, n)
@@ -230,6 +226,6 @@ module _ (a : Arm) (whole : length (a .links) ≡ linkLimit) (s : Split) where
     pub part-map : Accepted → (m m′ : List ℕ) (r : Counted) → 2 * linkLimit ≤ length m → out r m′ ≡ splitAnswer (parentsOf a) s m
         → m′ ≡ splitMap (parentsOf a) s (length (parentsOf a)) ++ drop (2 * liveLinks a) m
     part-map x m m′ r room e =
-        let n = parents-live in
+        let n = parents-live a whole in
         ap (λ (o : Outcome). o .memory) (e ∙ bare-answer m x (omega arith) ∙ given-none 0 _ _ m refl)
         ∙ rw (map-length (parentsOf a) s (liveLinks a), n)

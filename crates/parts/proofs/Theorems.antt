@@ -2,15 +2,16 @@
 use Prim.Native.Nat.{ℕ, zero, suc, _+_, _≤_, _<_}
 use mathlib.Core.Path.{_≡_, refl, sym, ap, ap₂, _∙_}
 use mathlib.Core.Bool.{Bool, true, false, cond, not, _&&_}
-use mathlib.Core.List.{List, [], _∷_, _++_, map}
+use mathlib.Core.List.{List, [], _∷_, map}
 use native.Mathlib.Omega.{arith}
 use lib.ListN.{length, drop, length-append, length-drop}
 use lib.Seq.{length-take-le}
 use lib.Ieee.{Float}
 use Rattle.limits.specs.Limits.{linkLimit, dofLimit}
-use Rattle.masks.specs.Masks.{bitOf, isFree, dofsBelow, dofsOf}
+use Rattle.masks.specs.Masks.{dofsOf}
 use Rattle.masks.specs.Starts.{totalOf, startOf}
-use Rattle.masks.proofs.Totals.{start-in}
+use Rattle.masks.proofs.Totals.{start-in, total-join}
+use Rattle.masks.proofs.Laws.{fixed-dofs}
 use Rattle.multibody_joint.specs.Joint.{fixedJoint}
 use Rattle.arm.specs.declared.Link.{Link}
 use Rattle.arm.specs.declared.Arm.{Arm}
@@ -44,19 +45,10 @@ settles a s k t sized r =
 
 -- ---- degrees of freedom
 
-none-free : dofsOf 7 ≡ 0
-unfolding dofsOf dofsBelow isFree bitOf
-none-free = refl
-
-total-join : (xs ys : List ℕ) → totalOf (xs ++ ys) ≡ totalOf xs + totalOf ys
-unfolding totalOf
-total-join [] ys = omega arith
-total-join (x ∷ xs) ys = omega (arith, total-join xs ys)
-
 -- one link's DoFs in the part: a head's are none
 new-dofs : (here head : Bool) (parent : ℕ) (l : Link) → totalOf (cond here (lockedOf (newLink head parent l) ∷ []) []) ≡ totalOf (cond (here && not head) (lockedOf l ∷ []) [])
 unfolding totalOf newLink fixedJoint
-new-dofs true true parent l = omega (arith, none-free)
+new-dofs true true parent l = omega (arith, fixed-dofs)
 new-dofs true false parent l = refl
 new-dofs false head parent l = refl
 

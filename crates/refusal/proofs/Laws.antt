@@ -1,6 +1,6 @@
 -- `lowest` is the lowest: none where every one is none, else one of the list that no other undercuts. By the list's length.
 use Prim.Native.Nat.{ℕ, zero, suc, _-_, _≤_, _<_}
-use mathlib.Core.Path.{_≡_, refl, sym, subst, _∙_}
+use mathlib.Core.Path.{_≡_, refl, sym, ap₂, subst, _∙_}
 use mathlib.Core.Logic.{_⊎_, inl, inr}
 use mathlib.Core.List.{List, [], _∷_}
 use native.Mathlib.Nat.{eq-zero-or-pos}
@@ -32,19 +32,16 @@ is-least zero b h l = refl
 is-least (suc a) zero h l = absurd (h refl)
 is-least (suc a) (suc b) h l = omega arith
 
+pub lowered : {r a b x y : ℕ} → r ≡ lowerOf a b → a ≡ x → b ≡ y → r ≡ lowerOf x y
+lowered e p q = e ∙ ap₂ lowerOf p q
+
 -- ---- the lowest of a list
 
-none-first : (a b : ℕ) → lowerOf a b ≡ 0 → a ≡ 0
+pub none-of : (a b : ℕ) → lowerOf a b ≡ 0 → (a ≡ 0) × (b ≡ 0)
 unfolding lowerOf
-none-first zero b h = refl
-none-first (suc a) zero h = h
-none-first (suc a) (suc b) h = absurd (omega arith)
-
-none-second : (a b : ℕ) → lowerOf a b ≡ 0 → b ≡ 0
-unfolding lowerOf
-none-second zero b h = h
-none-second (suc a) zero h = refl
-none-second (suc a) (suc b) h = absurd (omega arith)
+none-of zero b e = (refl, e)
+none-of (suc a) zero e = absurd (omega arith)
+none-of (suc a) (suc b) e = absurd (omega arith)
 
 least-first : (a b : ℕ) → (a ≡ 0 → ⊥) → lowerOf a b ≤ a
 unfolding lowerOf
@@ -67,7 +64,7 @@ either (suc a) (suc b) = elim (eq-zero-or-pos (suc a - b)) [ inl e ↦ inl (omeg
 -- the lower of k and the lowest of the others is the lowest of all
 more : (k r : ℕ) (ks : List ℕ) → Lowest ks r → Lowest (k ∷ ks) (lowerOf k r)
 more k r ks low = record {
-  none = λ e j i. elim i [ inl p ↦ p ∙ none-first k r e | inr q ↦ low .none (none-second k r e) j q ];
+  none = λ e j i. elim i [ inl p ↦ p ∙ none-of k r e .0 | inr q ↦ low .none (none-of k r e .1) j q ];
   given = λ h. elim (either k r) [ inl e ↦ inl e | inr e ↦ inr (subst (λ (n : ℕ). In n ks) (sym e) (low .given (λ z. h (e ∙ z)))) ];
   least = λ j i h. elim i [
     | inl p ↦ subst (λ (n : ℕ). lowerOf k r ≤ n) (sym p) (least-first k r (λ z. h (p ∙ z)))

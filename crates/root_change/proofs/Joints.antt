@@ -10,7 +10,7 @@ use Rattle.multibody_joint.specs.Joint.{freeJoint, fixedJoint, freePosSet}
 use Rattle.arm.specs.declared.Link.{Link}
 use Rattle.arm.specs.declared.Row.{Row}
 use Rattle.arm.specs.declared.Arm.{Arm}
-use Rattle.arm.proofs.Edits.{set-modify}
+use Rattle.arm.proofs.Modified.{set-modify}
 use Rattle.kinematics.specs.State.{noLink, linkAt}
 use Rattle.working.proofs.Tests.{withParts}
 use Rattle.root_change.specs.Root.{withFrame1, rootJoint, rootLink, rootRows, rootChanged}

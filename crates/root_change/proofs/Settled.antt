@@ -16,8 +16,10 @@ use Rattle.refusal.specs.Refusal.{unlessOf}
 use Rattle.refusal.proofs.Laws.{is-lowest}
 use Rattle.refusal.proofs.Tests.{both-hold, both}
 use Rattle.floats.specs.Floats.{zero32, isFinite, allFinite}
-use Rattle.masks.specs.Masks.{bitOf, isFree, dofsBelow, dofsOf}
+use Rattle.floats.proofs.FiniteRows.{zero-finite, finite-take}
+use Rattle.masks.specs.Masks.{dofsOf}
 use Rattle.masks.specs.Starts.{totalOf}
+use Rattle.masks.proofs.Laws.{fixed-dofs, free-dofs}
 use Rattle.planar.specs.declared.Pose.{Pose}
 use Rattle.planar.specs.Rotation.{isBeyond}
 use Rattle.planar.specs.Poses.{rotationOf, translationOf, isTurn, finiteRotation, finitePoint, finitePose}
@@ -29,20 +31,17 @@ use Rattle.arm.specs.declared.Arm.{Arm}
 use Rattle.arm.specs.Arm.{liveLinks, linksOf, couplingsOf, tagOf, parentOf, lockedOf, masksOf, dofCountOf, entriesTo, rowsOf}
 use Rattle.arm.specs.Edits.{modify}
 use Rattle.arm.specs.HandedIn.{every, tagsUnique, linkNumbersFit, jointMasksFit, linkMasksFit, rootMaskFits, rootFits, couplingAxesFit, masksAndAxesFit, jointFinite, linkFinite, couplingFinite, rowsFinite, floatsFinite, angleFits, linkAngleFits, anglesFit, armRefusal}
-use Rattle.arm.proofs.Every.{every-map}
+use Rattle.arm.proofs.Every.{every-map, every-at, every-of}
 use Rattle.arm.proofs.Live.{dof-count-le}
-use Rattle.kinematics.specs.State.{linkAt}
+use Rattle.arm.proofs.Modified.{length-modify, modify-same, modify-other}
+use Rattle.kinematics.specs.State.{linkAt, noLink}
 use Rattle.working.specs.Outcome.{tablesFit}
-use Rattle.working.proofs.Tests.{Passes, holds-in, passes, not-refused, link-passes, links-pass, each-passes, all-pass, tags-stay, numbers-stay}
+use Rattle.working.proofs.Tests.{Passes, holds-in, passes, not-refused, link-passes, links-pass, tags-stay, numbers-stay}
 use Rattle.working.proofs.Again.{call-settles, call-keeps, call-joint}
 use Rattle.root_change.specs.Root.{isRootMask, withFrame1, rootJoint, rootLink, widened, narrowed, rootRow, rootMask, rootRows, rootChanged, rootRefusal, changedRoot}
 use Rattle.root_change.specs.Promises.{RootSettles, RootKeeps}
 
 -- ---- the joint
-
-zero-finite : isFinite zero32 ≡ true
-unfolding ofBits
-zero-finite = refl
 
 abbrev pub Kind : ℕ → Type 0
 Kind locked = isRootMask locked ≡ true
@@ -125,28 +124,15 @@ module _ (locked : ℕ) (p : Pose) (j : Joint) where
 
 -- ---- a row
 
-pub fixed-dofs : dofsOf 7 ≡ 0
-unfolding dofsOf dofsBelow isFree bitOf
-fixed-dofs = refl
-
-pub free-dofs : dofsOf 0 ≡ 3
-unfolding dofsOf dofsBelow isFree bitOf
-free-dofs = refl
-
-take-finite : (n : ℕ) (xs : List Float) → allFinite xs ≡ true → allFinite (take n xs) ≡ true
-take-finite zero xs e = refl
-take-finite (suc n) [] e = refl
-take-finite (suc n) (x ∷ xs) e = let q = both-hold (isFinite x) (allFinite xs) e in both (q .0) (take-finite n xs (q .1))
-
 append-finite : (n : ℕ) (xs ys : List Float) → allFinite (take n xs) ≡ true → allFinite ys ≡ true → allFinite (take n (xs ++ ys)) ≡ true
 append-finite zero xs ys e f = refl
-append-finite (suc n) [] ys e f = take-finite (suc n) ys f
+append-finite (suc n) [] ys e f = finite-take (suc n) ys f
 append-finite (suc n) (x ∷ xs) ys e f = let q = both-hold (isFinite x) (allFinite (take n xs)) e in both (q .0) (append-finite n xs ys (q .1) f)
 
 drop-finite : (n : ℕ) (xs : List Float) → allFinite (take (suc (suc (suc n))) xs) ≡ true → allFinite (take n (drop 3 xs)) ≡ true
-drop-finite n [] e = take-finite n [] refl
-drop-finite n (x ∷ []) e = take-finite n [] refl
-drop-finite n (x ∷ y ∷ []) e = take-finite n [] refl
+drop-finite n [] e = finite-take n [] refl
+drop-finite n (x ∷ []) e = finite-take n [] refl
+drop-finite n (x ∷ y ∷ []) e = finite-take n [] refl
 drop-finite n (x ∷ y ∷ z ∷ xs) e = both-hold (isFinite z) _ (both-hold (isFinite y) _ (both-hold (isFinite x) _ e .1) .1) .1
 
 zeros-finite : allFinite (replicate 3 zero32) ≡ true
@@ -208,21 +194,6 @@ first-total n (l ∷ ls) h = refl
 
 -- the first of a list changed
 module _ (f : Link → Link) where
-  first-changed : (ls : List Link) → 0 < length ls → linkAt (modify f 0 ls) 0 ≡ f (linkAt ls 0)
-  unfolding modify
-  first-changed [] h = absurd (omega arith)
-  first-changed (l ∷ ls) h = refl
-
-  others-stay : (ls : List Link) (j : ℕ) → linkAt (modify f 0 ls) (suc j) ≡ linkAt ls (suc j)
-  unfolding modify
-  others-stay [] j = refl
-  others-stay (l ∷ ls) j = refl
-
-  modify-length : (ls : List Link) → length (modify f 0 ls) ≡ length ls
-  unfolding modify
-  modify-length [] = refl
-  modify-length (l ∷ ls) = refl
-
   behind-stays : (n : ℕ) (ls : List Link) → behindFirst n (modify f 0 ls) ≡ behindFirst n ls
   unfolding modify
   behind-stays n [] = refl
@@ -243,20 +214,20 @@ module _ (a : Arm) (sized : length (a .links) ≡ linkLimit) (three : length (li
   was = passes a old
 
   sized-after : length ls ≡ linkLimit
-  sized-after = modify-length change (a .links) ∙ sized
+  sized-after = length-modify change 0 (a .links) ∙ sized
 
   root-at : linkAt ls 0 ≡ change (linkAt (a .links) 0)
-  root-at = first-changed change (a .links) (omega arith)
+  root-at = modify-same change 0 (a .links) noLink (omega arith)
 
   -- what the change leaves of the root, every link keeps
   view-stays : {A : Type 0} (g : Link → A) → g (change (linkAt (a .links) 0)) ≡ g (linkAt (a .links) 0) → (j : ℕ) → j < liveLinks a → g (linkAt ls j) ≡ g (linkAt (a .links) j)
   view-stays g e zero h = ap g root-at ∙ e
-  view-stays g e (suc j) h = ap g (others-stay change (a .links) j)
+  view-stays g e (suc j) h = ap g (modify-other change 0 (suc j) (a .links) noLink (λ e. omega arith))
 
   -- what the new root passes, every link does
   test-stays : (test : Link → Bool) → every test (linksOf a) ≡ true → (test (linkAt (a .links) 0) ≡ true → test (change (linkAt (a .links) 0)) ≡ true) → (j : ℕ) → j < liveLinks a → test (linkAt ls j) ≡ true
   test-stays test e f zero h = ap test root-at ∙ f (link-passes a sized test e 0 h)
-  test-stays test e f (suc j) h = ap test (others-stay change (a .links) j) ∙ link-passes a sized test e (suc j) h
+  test-stays test e f (suc j) h = ap test (modify-other change 0 (suc j) (a .links) noLink (λ e. omega arith)) ∙ link-passes a sized test e (suc j) h
 
   abbrev root : Joint
   root = linkAt (a .links) 0 .joint
@@ -319,9 +290,9 @@ module _ (a : Arm) (sized : length (a .links) ≡ linkLimit) (three : length (li
       let g = rootRow (rootMask a) locked in
       every-map allFinite (entriesTo (dofCountOf new)) (map g (a .rows))
       ∙ every-map (finiteTo (dofCountOf new)) g (a .rows)
-      ∙ all-pass (λ (r : Row). finiteTo (dofCountOf new) (g r)) (a .rows) (record { entries = [] }) (λ j h.
+      ∙ every-of (λ (r : Row). finiteTo (dofCountOf new) (g r)) (a .rows) (record { entries = [] }) (λ j h.
       let r = getD (a .rows) j (record { entries = [] }) in
-      let e : finiteTo (dofCountOf a) r ≡ true = each-passes (finiteTo (dofCountOf a)) (a .rows) (record { entries = [] }) (sym (every-map allFinite (entriesTo (dofCountOf a)) (a .rows)) ∙ floats-were .1) j h in
+      let e : finiteTo (dofCountOf a) r ≡ true = every-at (finiteTo (dofCountOf a)) (a .rows) (record { entries = [] }) (sym (every-map allFinite (entriesTo (dofCountOf a)) (a .rows)) ∙ floats-were .1) j h in
       ap (λ (k : ℕ). allFinite (take k (g r .entries))) dofs-after
       ∙ row-finite n r (rootMask a) locked was-kind kind (omega (arith, dofs-after, dof-count-le new)) (ap (λ (k : ℕ). allFinite (take k (r .entries))) (sym dofs-were) ∙ e))
 
@@ -365,11 +336,11 @@ module _ (a : Arm) (sized : length (a .links) ≡ linkLimit) (three : length (li
 
   new-sized : length (rootChanged a locked p .links) ≡ linkLimit
   unfolding rootChanged
-  new-sized = modify-length (rootLink locked p) (a .links) ∙ sized
+  new-sized = length-modify (rootLink locked p) 0 (a .links) ∙ sized
 
   new-three : length (linkAt (rootChanged a locked p .links) 0 .joint .coordinates) ≡ 3
   unfolding rootChanged rootLink
-  new-three = ap (λ (l : Link). length (l .joint .coordinates)) (first-changed (rootLink locked p) (a .links) (omega arith)) ∙ three-stay locked p (linkAt (a .links) 0 .joint) three
+  new-three = ap (λ (l : Link). length (l .joint .coordinates)) (modify-same (rootLink locked p) 0 (a .links) noLink (omega arith)) ∙ three-stay locked p (linkAt (a .links) 0 .joint) three
 
 pub root-settles : RootSettles
 unfolding changedRoot

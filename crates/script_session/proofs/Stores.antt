@@ -9,7 +9,7 @@ use Rattle.arm.specs.declared.Arm.{Arm}
 use Rattle.arm.specs.declared.Coupling.{Coupling}
 use Rattle.arm.specs.declared.Link.{Link}
 use Rattle.arm.specs.Edits.{modify, withCouplings, withLinks}
-use Rattle.arm.proofs.Edits.{set-modify}
+use Rattle.arm.proofs.Modified.{set-modify}
 use Rattle.kinematics.specs.State.{noLink}
 use Rattle.working.specs.Empty.{blankCoupling}
 use Rattle.script_command.specs.declared.Poke.{Poke}

@@ -1,12 +1,12 @@
--- An arm that is not refused passes each test, and one that passes each test is not refused. Assumes nothing.
+-- An arm that is not refused passes each test, list by list, and one that passes each test is not refused. Assumes nothing.
 use mathlib.Core.Path.{_≡_}
 use mathlib.Core.Bool.{true}
-use Rattle.refusal.specs.Refusal.{lowerOf}
-use Rattle.refusal.proofs.Tests.{both-hold}
+use Rattle.refusal.proofs.Tests.{both-hold, both}
 use Rattle.arm.specs.declared.Arm.{Arm}
 use Rattle.arm.specs.Arm.{linksOf, couplingsOf}
-use Rattle.arm.specs.HandedIn.{every, countsFit, tagsUnique, parentsEarlier, couplingsLinksFit, linkNumbersFit, linkMasksFit, rootFits, couplingAxesFit, masksAndAxesFit, linkFinite, couplingFinite, rowsFinite, floatsFinite, anglesFit, armEntries, armRefusal}
-use Rattle.settled.proofs.Lowest.{none-of, holds}
+use Rattle.arm.specs.HandedIn.{every, countsFit, tagsUnique, parentsEarlier, couplingsLinksFit, linkMasksFit, rootFits, couplingAxesFit, linkFinite, couplingFinite, rowsFinite, anglesFit, armRefusal}
+use Rattle.working.proofs.Tests.{passes}
+use Rattle.working.proofs.Tests as by-number
 
 pub record Accepted (a : Arm) : Type 0 where
   pub counts : countsFit a ≡ true
@@ -22,32 +22,34 @@ pub record Accepted (a : Arm) : Type 0 where
   pub angles : anglesFit a ≡ true
 
 pub accepted : (a : Arm) → armRefusal a ≡ 0 → Accepted a
-unfolding armRefusal armEntries
 accepted a e =
-    let p₂ = none-of _ _ e in
-    let p₃ = none-of _ _ (p₂ .1) in
-    let p₄ = none-of _ _ (p₃ .1) in
-    let p₅ = none-of _ _ (p₄ .1) in
-    let p₇ = none-of _ _ (p₅ .1) in
-    let q₄ = both-hold _ _ (holds (linkNumbersFit a) 3 (p₄ .0)) in
-    let q₅ = both-hold _ _ (holds (masksAndAxesFit a) 4 (p₅ .0)) in
-    let m₅ = both-hold _ _ (q₅ .0) in
-    let q₇ = both-hold _ _ (holds (floatsFinite a) 6 (p₇ .0)) in
-    let m₇ = both-hold _ _ (q₇ .0) in
+    let p = passes a e in
+    let numbers = both-hold _ _ (p .numbers) in
+    let masks = both-hold _ _ (p .masks) in
+    let of-links = both-hold _ _ (masks .0) in
+    let floats = both-hold _ _ (p .floats) in
+    let of-lists = both-hold _ _ (floats .0) in
     record {
-      counts = holds (countsFit a) 1 (p₂ .0);
-      tags = holds (tagsUnique a) 2 (p₃ .0);
-      parents = q₄ .0;
-      coupled = q₄ .1;
-      masks = m₅ .0;
-      root = m₅ .1;
-      axes = q₅ .1;
-      links = m₇ .0;
-      couplings = m₇ .1;
-      rows = q₇ .1;
-      angles = holds (anglesFit a) 8 (p₇ .1);
+      counts = p .counts;
+      tags = p .tags;
+      parents = numbers .0;
+      coupled = numbers .1;
+      masks = of-links .0;
+      root = of-links .1;
+      axes = masks .1;
+      links = of-lists .0;
+      couplings = of-lists .1;
+      rows = floats .1;
+      angles = p .angles;
     }
 
 pub not-refused : (a : Arm) → Accepted a → armRefusal a ≡ 0
-unfolding armRefusal armEntries lowerOf
-not-refused a k = rw (k .counts, k .tags, k .parents, k .coupled, k .masks, k .root, k .axes, k .links, k .couplings, k .rows, k .angles)
+not-refused a k =
+    by-number.not-refused a (record {
+      counts = k .counts;
+      tags = k .tags;
+      numbers = both (k .parents) (k .coupled);
+      masks = both (both (k .masks) (k .root)) (k .axes);
+      floats = both (both (k .links) (k .couplings)) (k .rows);
+      angles = k .angles;
+    })

@@ -1,11 +1,9 @@
 mod Block
-pub mod Lowest
 pub mod Accepted
 pub mod Lists
 pub mod Relinked
 pub mod Settles
 pub mod Right
 pub mod Sticky
-pub mod Modified
 pub mod Parents
 pub mod One

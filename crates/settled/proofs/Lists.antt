@@ -1,32 +1,18 @@
 -- Tests and values of lists: element by element, of a front, of a list with one more. Assumes nothing.
-use Prim.Native.Nat.{ℕ, zero, suc, _<_}
+use Prim.Native.Nat.{ℕ, suc}
 use mathlib.Core.Path.{_≡_, refl, sym, ap, ap₂, _∙_}
-use mathlib.Core.Bool.{Bool, true, _&&_}
+use mathlib.Core.Bool.{Bool, true}
 use mathlib.Core.List.{List, [], _∷_, _++_, map}
 use native.Mathlib.Omega.{arith}
 use lib.ListN.{length, take, getD}
-use Rattle.refusal.proofs.Tests.{both-hold}
+use Rattle.refusal.proofs.Tests.{both-hold, both}
 use Rattle.arm.specs.HandedIn.{every}
 use Rattle.arm.proofs.Every.{every-map}
 use Rattle.arm.proofs.Lists.{map-take}
 
-pub both : {a b : Bool} → a ≡ true → b ≡ true → (a && b) ≡ true
-both p q = ap₂ _&&_ p q
-
 -- ---- a test of each
 
 module _ {A : Type 0} (test : A → Bool) where
-  pub every-at : (xs : List A) (d : A) → every test xs ≡ true → (j : ℕ) → j < length xs → test (getD xs j d) ≡ true
-  unfolding every
-  every-at [] d e j h = absurd (omega arith)
-  every-at (x ∷ xs) d e zero h = both-hold (test x) (every test xs) e .0
-  every-at (x ∷ xs) d e (suc j) h = every-at xs d (both-hold (test x) (every test xs) e .1) j (omega arith)
-
-  pub every-of : (xs : List A) (d : A) → ((j : ℕ) → j < length xs → test (getD xs j d) ≡ true) → every test xs ≡ true
-  unfolding every
-  every-of [] d f = refl
-  every-of (x ∷ xs) d f = both (f 0 (omega arith)) (every-of xs d (λ j h. f (suc j) (omega arith)))
-
   pub every-snoc : (xs : List A) (x : A) → every test xs ≡ true → test x ≡ true → every test (xs ++ (x ∷ [])) ≡ true
   unfolding every
   every-snoc [] x e h = both h refl

@@ -7,11 +7,12 @@ use lib.ListN.{length, length-set, take, getD, set}
 use lib.Seq.{getD-set-same, getD-set-other, take-set-le, take-take}
 use lib.Ieee.{Float}
 use Rattle.limits.specs.Limits.{linkLimit}
+use Rattle.floats.proofs.Rows.{any-default}
 use Rattle.masks.specs.Starts.{totalOf, startOf}
 use Rattle.arm.specs.declared.Arm.{Arm}
 use Rattle.arm.specs.declared.Link.{Link}
 use Rattle.arm.specs.Arm.{liveLinks, linksOf, masksOf, lockedOf}
-use Rattle.arm.proofs.Lists.{any-default, map-take}
+use Rattle.arm.proofs.Lists.{map-take}
 use Rattle.kinematics.specs.declared.Turned.{Turned}
 use Rattle.kinematics.specs.State.{noLink, linkAt, only}
 use Rattle.kinematics.specs.Answers.{refreshMarked, turnedOut, refreshOne}

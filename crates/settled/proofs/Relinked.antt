@@ -4,7 +4,7 @@ use mathlib.Core.Path.{_≡_, refl, sym, ap, _∙_}
 use mathlib.Core.Bool.{Bool, true, _&&_}
 use mathlib.Core.List.{List, map}
 use lib.ListN.{length}
-use Rattle.refusal.proofs.Tests.{both-hold}
+use Rattle.refusal.proofs.Tests.{both-hold, both}
 use Rattle.masks.specs.Starts.{totalOf}
 use Rattle.planar.specs.Poses.{finitePoint}
 use Rattle.topology.specs.Parents.{parentsFit}
@@ -18,7 +18,7 @@ use Rattle.kinematics.specs.Link.{finitePlace, withPlace}
 use Rattle.kinematics.specs.State.{noLink, linkAt}
 use Rattle.kinematics.proofs.Store.{blank}
 use Rattle.settled.proofs.Accepted.{Accepted}
-use Rattle.settled.proofs.Lists.{both, same-front, same-tests}
+use Rattle.settled.proofs.Lists.{same-front, same-tests}
 
 module _ (a : Arm) (ls : List Link) (l : length ls ≡ length (a .links)) (e : (j : ℕ) → blank (linkAt ls j) ≡ blank (linkAt (a .links) j)) where
   of-blank : {B : Type 0} (f : Link → B) → ((x : Link) → f (blank x) ≡ f x) → (j : ℕ) → f (linkAt ls j) ≡ f (linkAt (a .links) j)

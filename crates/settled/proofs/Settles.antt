@@ -11,7 +11,8 @@ use lib.Seq.{getD-take, length-take-le}
 use lib.Ieee.{Float}
 use Rattle.limits.specs.Limits.{linkLimit, blockSize, tableSize}
 use Rattle.refusal.specs.Refusal.{lowerOf}
-use Rattle.refusal.proofs.Tests.{both-hold}
+use Rattle.refusal.proofs.Tests.{both-hold, holds}
+use Rattle.refusal.proofs.Laws.{none-of}
 use Rattle.floats.specs.Floats.{zero32}
 use Rattle.masks.specs.Starts.{startOf}
 use Rattle.topology.proofs.Tables.{all-at, all-below}
@@ -21,6 +22,7 @@ use Rattle.arm.specs.Arm.{liveLinks, linksOf}
 use Rattle.arm.specs.Edits.{withLinks}
 use Rattle.arm.specs.HandedIn.{linkFinite, armRefusal}
 use Rattle.arm.specs.HandedIn as tests
+use Rattle.arm.proofs.Every.{every-at, every-of}
 use Rattle.kinematics.specs.Blocks.{blockAt, zeroBlock}
 use Rattle.kinematics.specs.Link.{finitePlace, finiteKept, withPlace}
 use Rattle.kinematics.specs.State.{State, state, noLink, linkAt, parentOf, lockedOf, inputsOf, keptAt, keptOps, every, resultOf, stateAfter, fineAfter, cleared}
@@ -32,11 +34,10 @@ use Rattle.kinematics.specs.Pass.{run}
 use Rattle.working.specs.Outcome.{Outcome, out, says, unlessRefused, tablesFit, workedBy, workedAll, workedMarked}
 use Rattle.working.specs.Full.{fullRefusal, fullWorking, Settled}
 use Rattle.kinematics.specs.Promises.{Fresh, Fits, Ready}
-use Rattle.settled.proofs.Lowest.{none-of, holds}
 use Rattle.kinematics.proofs.Blocks.{replicated}
 use Rattle.kinematics.proofs.Promises.{after-good, all-fresh, stays, like-full}
 use Rattle.settled.proofs.Accepted.{Accepted, accepted, not-refused}
-use Rattle.settled.proofs.Lists.{every-at, every-of, same-map}
+use Rattle.settled.proofs.Lists.{same-map}
 use Rattle.settled.proofs.Relinked.{relinked, link-finite}
 
 -- ---- the working of an arm, by the test of its results

@@ -8,7 +8,7 @@ use lib.Dec.{eqb, ltb}
 use lib.ListN.{length}
 use lib.Ieee.{Float, nan, inf, fin, unlike, add, sub, neg, mul}
 use Rattle.limits.specs.Limits.{linkLimit}
-use Rattle.refusal.proofs.Tests.{both-hold}
+use Rattle.refusal.proofs.Tests.{both-hold, both}
 use Rattle.floats.specs.Floats.{isFinite, minus, times}
 use Rattle.planar.specs.declared.Rotation.{Rotation}
 use Rattle.planar.specs.declared.Pose.{Pose}
@@ -20,7 +20,6 @@ use Rattle.kinematics.specs.Link.{Kept, Inputs, rootPosed, laterPosed, keptOf, 
 use Rattle.kinematics.specs.State.{linkAt, parentOf, inputsOf, keptAt, cleared}
 use Rattle.kinematics.specs.Promises.{Fits}
 use Rattle.kinematics.proofs.Promises.{all-fresh}
-use Rattle.settled.proofs.Lists.{both}
 use Rattle.settled.proofs.Settles.{allState, allFine, cleared-long, fine-at}
 
 differ : {A : Type 0} → _≡_ {A = Bool} false true → A

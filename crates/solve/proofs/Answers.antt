@@ -3,7 +3,7 @@ use mathlib.Core.Path.{_≡_, refl, sym, ap, _∙_}
 use mathlib.Core.Bool.{Bool, true, false, _&&_, and-false}
 use mathlib.Core.List.{List, [], _∷_, _++_}
 use mathlib.Core.Logic.{inl, inr}
-use Prim.Native.Nat.{ℕ, suc, _-_, _*_, _<_, _≤_}
+use Prim.Native.Nat.{ℕ, _-_, _*_, _<_, _≤_}
 use native.Mathlib.Nat.{sub-zero}
 use native.Mathlib.Omega.{arith}
 use borrow.Author.Tests.{leb-true, le-leb, lt-leb, ne-eqb}
@@ -14,7 +14,7 @@ use lib.Ieee.{Float, binary32, ofBits}
 use Rattle.limits.specs.Limits.{dofLimit}
 use Rattle.refusal.specs.Refusal.{lowest, lowerOf, unlessOf}
 use Rattle.refusal.proofs.Laws.{is-lowest}
-use Rattle.refusal.proofs.Tests.{both-hold}
+use Rattle.refusal.proofs.Tests.{both-hold, holds}
 use Rattle.floats.specs.Floats.{allFinite, overlaid}
 use Rattle.floats.proofs.Rows.{overlaid-parts}
 use Rattle.elimination.specs.Elimination.{Factors, factors, factored, overFront, factoredIn}
@@ -30,10 +30,6 @@ three p q r h = let a = both-hold (p && q) r h .0 in (both-hold p q a .0, both-h
 
 four : (p q r s : Bool) → (p && q && r && s) ≡ true → (p ≡ true) × (q ≡ true) × (r ≡ true) × (s ≡ true)
 four p q r s h = let a = three p q r (both-hold (p && q && r) s h .0) in (a .0, a .1, a .2, both-hold (p && q && r) s h .1)
-
-holds : (b : Bool) (k : ℕ) → unlessOf b (suc k) ≡ 0 → b ≡ true
-holds true k e = refl
-holds false k e = absurd (omega arith)
 
 fails : (b : Bool) (k : ℕ) → (unlessOf b k ≡ 0 → ⊥) → b ≡ false
 fails true k h = absurd (h refl)

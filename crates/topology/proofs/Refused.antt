@@ -1,7 +1,7 @@
 -- The two calls' answers: a refusal is the lowest of four tests, none where all of them hold.
 use Prim.Native.Nat.{ℕ, zero, suc, _*_, _/_, _≤_, _<_}
 use mathlib.Core.Path.{_≡_, refl, sym, _∙_}
-use mathlib.Core.Bool.{Bool, true, false}
+use mathlib.Core.Bool.{Bool, true}
 use mathlib.Core.Logic.{inl, inr}
 use mathlib.Core.List.{List, [], _∷_, _++_}
 use native.Mathlib.Omega.{arith}
@@ -12,15 +12,12 @@ use lib.Dec.{leb, ltb}
 use Rattle.limits.specs.Limits.{linkLimit}
 use Rattle.refusal.specs.Refusal.{unlessOf}
 use Rattle.refusal.proofs.Laws.{is-lowest}
+use Rattle.refusal.proofs.Tests.{holds}
 use Rattle.topology.specs.declared.Split.{Split}
 use Rattle.topology.specs.Parents.{parentsFit, branch}
 use Rattle.topology.specs.Split.{linkOf, partCount, splitMap}
 use Rattle.topology.specs.Answers.{out, given, refusalOf, branchAnswer, splitAnswer}
 use Rattle.topology.proofs.Mapped.{map-length}
-
-passes : (ok : Bool) (k : ℕ) → unlessOf ok (suc k) ≡ 0 → ok ≡ true
-passes true k h = refl
-passes false k h = absurd (omega arith)
 
 pub record Accepted (ps : List ℕ) (link : ℕ) (enough : Bool) : Type 0 where
   pub room : enough ≡ true
@@ -33,10 +30,10 @@ unfolding refusalOf
 accepted ps link enough r e z =
     let none = is-lowest (unlessOf enough 1 ∷ unlessOf (leb (length ps) linkLimit) 2 ∷ unlessOf (ltb link (length ps)) 4 ∷ unlessOf (parentsFit ps) 4 ∷ []) .none (sym e ∙ z) in
     record {
-      room = passes enough 0 (none _ (inl refl));
-      few = leb-true (length ps) linkLimit (passes _ 1 (none _ (inr (inl refl))));
-      below = ltb-true link (length ps) (passes _ 3 (none _ (inr (inr (inl refl)))));
-      fit = passes (parentsFit ps) 3 (none _ (inr (inr (inr (inl refl)))));
+      room = holds enough 0 (none _ (inl refl));
+      few = leb-true (length ps) linkLimit (holds _ 1 (none _ (inr (inl refl))));
+      below = ltb-true link (length ps) (holds _ 3 (none _ (inr (inr (inl refl)))));
+      fit = holds (parentsFit ps) 3 (none _ (inr (inr (inr (inl refl)))));
     }
 
 refused : (k n : ℕ) (bytes m : List ℕ) → (k ≡ 0 → ⊥) → out (record { refusal = k; count = 0 }) m ≡ given k n bytes m

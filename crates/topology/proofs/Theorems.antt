@@ -54,7 +54,7 @@ module _ (ps : List ℕ) (s : Split) where
             rw (← e) (rw add-zero at (at 0), at 1)
       ]
 
-  in-part : (q j : ℕ) → isIn ps s q j ≡ true → partOf ps s j ≡ q
+  pub in-part : (q j : ℕ) → isIn ps s q j ≡ true → partOf ps s j ≡ q
   unfolding isIn
   in-part q j h = eqb-true (partOf ps s j) q (both-hold (survives s j) _ h .1)
 

@@ -1,7 +1,7 @@
 -- What an accepted row knows: its memories and its mass matrix fit, the matrix is finite, and the DoF lies within the count. Assumes nothing.
-use Prim.Native.Nat.{ℕ, suc, min, _*_, _≤_, _<_}
+use Prim.Native.Nat.{ℕ, min, _*_, _≤_, _<_}
 use mathlib.Core.Path.{_≡_, refl}
-use mathlib.Core.Bool.{Bool, true, false, _&&_}
+use mathlib.Core.Bool.{Bool, true, _&&_}
 use mathlib.Core.Logic.{inl, inr}
 use mathlib.Core.List.{List}
 use native.Mathlib.Omega.{arith}
@@ -12,7 +12,7 @@ use lib.Ieee.{Float}
 use Rattle.limits.specs.Limits.{linkLimit, dofLimit}
 use Rattle.refusal.specs.Refusal.{unlessOf, In}
 use Rattle.refusal.proofs.Laws.{is-lowest}
-use Rattle.refusal.proofs.Tests.{both-hold}
+use Rattle.refusal.proofs.Tests.{both-hold, holds}
 use Rattle.floats.specs.Floats.{allFinite}
 use Rattle.masks.specs.Masks.{isFree}
 use Rattle.arm.specs.declared.Arm.{Arm}
@@ -23,10 +23,6 @@ use Rattle.arm.proofs.Edits.{dof-within}
 use Rattle.arm.proofs.Live.{dof-count-le}
 use Rattle.unit_multibody_joint.specs.Refusals.{memoryFits, massFinite, rowEntries, rowRefusal}
 use Rattle.unit_multibody_joint.proofs.Parts.{dof-byte}
-
-pub holds : (b : Bool) (k : ℕ) → unlessOf b (suc k) ≡ 0 → b ≡ true
-holds true k e = refl
-holds false k e = absurd (omega arith)
 
 -- the needed lengths, and the matrix finite
 pub record Fits (n : ℕ) (mass : List Float) (j wj : ℕ) : Type 0 where

@@ -12,6 +12,7 @@ use Rattle.limits.specs.Limits.{dofLimit}
 use Rattle.refusal.specs.Refusal.{unlessOf}
 use Rattle.floats.specs.Floats.{zero32, one32, allFinite, overlaid}
 use Rattle.floats.proofs.Rows.{overlaid-parts}
+use Rattle.floats.proofs.FiniteRows.{zeros-finite}
 use Rattle.masks.specs.Answers.{laid}
 use Rattle.solve.specs.Solve.{Answer, answer, solution, solveOf}
 use Rattle.unit_multibody_joint.specs.declared.Bounds.{Bounds}
@@ -64,11 +65,6 @@ unit-front n k dof h l = take-set-lt n (replicate k zero32) dof one32 l ∙ ap (
 pub unit-length : (n dof : ℕ) → length (unitRow n dof) ≡ n
 unfolding unitRow
 unit-length n dof = length-set (replicate n zero32) dof one32 ∙ length-replicate n zero32
-
-pub zeros-finite : (n : ℕ) → allFinite (replicate n zero32) ≡ true
-unfolding ofBits
-zeros-finite zero = refl
-zeros-finite (suc n) = zeros-finite n
 
 unit-finite : (n dof : ℕ) → allFinite (unitRow n dof) ≡ true
 unfolding unitRow ofBits

@@ -23,7 +23,7 @@ use Rattle.arm.specs.Arm.{liveLinks}
 use Rattle.arm.specs.Edits.{withLinks}
 use Rattle.arm.specs.HandedIn.{jointFinite, linkFinite, linkAngleFits, armRefusal}
 use Rattle.arm.proofs.Accepted.{rest-accepted}
-use Rattle.kinematics.specs.Link.{Kept, finitePlace, finiteKept, withPlace, withKept}
+use Rattle.kinematics.specs.Link.{Kept, finitePlace, finiteKept, withPlace}
 use Rattle.kinematics.specs.State.{State, state, noLink, linkAt, parentOf, lockedOf, inputsOf, keptAt, keptOps, every, stateAfter, fineAfter, cleared, laid, newBlock}
 use Rattle.kinematics.specs.Answers.{passed, refreshAll}
 use Rattle.kinematics.proofs.Pass.{new-same, only, turn-result, beyond, stays-good}
@@ -31,17 +31,13 @@ use Rattle.kinematics.proofs.Laid.{laid-same, laid-length}
 use Rattle.kinematics.proofs.Store.{Good, laws, blank, after-blank}
 use Rattle.kinematics.proofs.Turns.{tables-after, new-size}
 use Rattle.kinematics.proofs.Same.{every-fresh, every-tables}
+use Rattle.kinematics.proofs.Promises.{link-back}
 use Rattle.working.specs.Outcome.{Outcome, says, out, unlessRefused, tablesFit, workedBy, workedAll}
 use Rattle.working.specs.Full.{fullRefusal, fullWorking, Settled}
 use Rattle.working.proofs.Refused.{accepted}
 use Rattle.working.proofs.Tests.{standing, passes, not-refused, link-passes, links-pass, still-passes}
 
 -- ---- the full pass
-
--- what is kept, with the inputs, is the link
-link-back : (m g : State) (j : ℕ) → blank (linkAt (m .links) j) ≡ blank (linkAt (g .links) j) → keptAt m j ≡ keptAt g j → linkAt (m .links) j ≡ linkAt (g .links) j
-unfolding keptAt withPlace
-link-back m g j e k = ap₂ withKept e k
 
 module _ (n : ℕ) (fit : n ≤ linkLimit) (ls : List Link) (sized : length ls ≡ linkLimit) (t : List Float) (long : tableSize ≤ length t) where
   pass-good : Good (stateAfter ls n every t)

@@ -1,13 +1,13 @@
 -- An arm's tests one by one, and what they say of an arm with other links or rows: where tags, parents and masks stay, only floats and angles are left to
 -- test. Assumes nothing.
-use Prim.Native.Nat.{ℕ, zero, suc, _<_}
+use Prim.Native.Nat.{ℕ, suc, _<_}
 use mathlib.Core.Path.{_≡_, refl, sym, ap, ap₂, _∙_}
 use mathlib.Core.Bool.{Bool, true, _&&_}
 use mathlib.Core.Logic.{inl, inr}
 use mathlib.Core.List.{List, [], _∷_, map}
 use native.Mathlib.Omega.{arith}
 use lib.Dec.{leb}
-use lib.ListN.{length, take, getD, length-map, List·getD-map}
+use lib.ListN.{length, take, length-map, List·getD-map}
 use lib.Seq.{ext-getD, getD-take, length-take-le}
 use Rattle.limits.specs.Limits.{linkLimit}
 use Rattle.refusal.specs.Refusal.{unlessOf, lowerOf, lowest, In}
@@ -20,7 +20,7 @@ use Rattle.arm.specs.Arm.{liveLinks, linksOf, couplingsOf, tagOf, parentOf, loc
 use Rattle.arm.specs.Edits.{withLinks}
 use Rattle.arm.specs.HandedIn.{every, unique, countsFit, tagsUnique, parentsEarlier, linkNumbersFit, jointMasksFit, linkMasksFit, rootMaskFits, rootFits, couplingAxesFit, masksAndAxesFit, linkFinite, couplingFinite, rowsFinite, floatsFinite, anglesFit, armEntries, armRefusal}
 use Rattle.arm.proofs.Accepted.{first-holds}
-use Rattle.arm.proofs.Every.{every-map}
+use Rattle.arm.proofs.Every.{every-map, every-at, every-of}
 use Rattle.kinematics.specs.State.{noLink, linkAt}
 
 -- ---- the tests
@@ -60,20 +60,6 @@ unfolding armRefusal armEntries
 not-refused a p =
     none (countsFit a) (tagsUnique a) (linkNumbersFit a) (masksAndAxesFit a) (floatsFinite a) (anglesFit a) (p .counts) (p .tags) (p .numbers) (p .masks) (p .floats) (p .angles)
 
--- ---- a test of each
-
-module _ {A : Type 0} (test : A → Bool) where
-  pub each-passes : (xs : List A) (d : A) → every test xs ≡ true → (j : ℕ) → j < length xs → test (getD xs j d) ≡ true
-  unfolding every
-  each-passes [] d e j h = absurd (omega arith)
-  each-passes (x ∷ xs) d e zero h = both-hold (test x) _ e .0
-  each-passes (x ∷ xs) d e (suc j) h = each-passes xs d (both-hold (test x) _ e .1) j (omega arith)
-
-  pub all-pass : (xs : List A) (d : A) → ((j : ℕ) → j < length xs → test (getD xs j d) ≡ true) → every test xs ≡ true
-  unfolding every
-  all-pass [] d f = refl
-  all-pass (x ∷ xs) d f = both (f 0 (omega arith)) (all-pass xs d (λ j h. f (suc j) (omega arith)))
-
 -- ---- an arm with other links and rows
 
 -- what of a link the tests of numbers read
@@ -102,14 +88,14 @@ module _ (a : Arm) (sized : length (a .links) ≡ linkLimit) where
   unfolding linksOf
   link-passes test e j h =
       sym (ap test (getD-take (liveLinks a) (a .links) j noLink h))
-      ∙ each-passes test (take (liveLinks a) (a .links)) noLink e j (omega (arith, length-take-le (liveLinks a) (a .links) (omega arith)))
+      ∙ every-at test (take (liveLinks a) (a .links)) noLink e j (omega (arith, length-take-le (liveLinks a) (a .links) (omega arith)))
 
   pub links-pass : (test : Link → Bool) → ((j : ℕ) → j < liveLinks a → test (linkAt (a .links) j) ≡ true) → every test (linksOf a) ≡ true
   unfolding linksOf
   links-pass test f =
       let n = liveLinks a in
       let l : length (take n (a .links)) ≡ n = length-take-le n (a .links) (omega arith) in
-      all-pass test (take n (a .links)) noLink (λ j h.
+      every-of test (take n (a .links)) noLink (λ j h.
       let k : j < n = omega arith in
       ap test (getD-take n (a .links) j noLink k) ∙ f j k)
 

@@ -1,11 +1,12 @@
 -- `add_refusal`: the same list of tests. Assumes nothing.
+use Rattle.refusal.proofs.Laws.{lowered}
+use Rattle.refusal.proofs.Tests.{tested}
 use Rattle.addition.specs.Addition.{addRefusal}
 use mathlib.Core.Bool.{_&&_}
 use mathlib.Core.Path.{ap₂, _∙_, ap}
 use Rattle.arm.specs.HandedIn.{isNew}
 use Rattle.arm.proofs.Shape.{links-length}
 use Rattle.arm.proofs.Handed.{found-refusal, found-tags}
-use Rattle.settled.proofs.Lowest.{lowered, tested}
 use borrow.Author.Needs.{needs}
 use Rattle.addition.proofs.add_refusal.Statement.{statement}
 use Rattle.addition.proofs.add_refusal.Tie as tie

@@ -1,5 +1,4 @@
 -- `mask_among`: within the count its mask, past it 7. Assumes nothing.
-use Rattle.arm.proofs.Lists.{any-default}
 use mathlib.Core.Path.{_∙_, _≡_, sym}
 use native.Mathlib.Omega.{arith}
 use Prim.Native.Nat.{min}
@@ -7,6 +6,7 @@ use lib.ListN.{length, take, length-take, List·getD-eq-default}
 use lib.Seq.{getD-take}
 use Rattle.limits.specs.Limits.{linkLimit}
 use borrow.Author.Needs.{needs}
+use Rattle.floats.proofs.Rows.{any-default}
 use Rattle.arm.proofs.mask_among.Statement.{statement}
 use Rattle.arm.proofs.mask_among.Tie as tie
 

@@ -4,7 +4,7 @@ use lib.ListN.{List·getD-eq-default}
 use lib.Ieee.{nan}
 use borrow.Author.Needs.{needs}
 use Rattle.floats.specs.Floats.{zero32, entryOf}
-use Rattle.floats.proofs.Rows.{same-default}
+use Rattle.floats.proofs.Rows.{any-default}
 use Rattle.floats.proofs.entry.Statement.{statement}
 use Rattle.floats.proofs.entry.Tie as tie
 
@@ -16,7 +16,7 @@ shared-slice-read-result c = search needs
 
 returns : tie.Need-returns
 unfolding entryOf
-returns c = same-default (c .before .before .args .row .now) (c .before .before .args .k) nan zero32 (c .before .if1 .taken)
+returns c = any-default (c .before .before .args .row .now) (c .before .before .args .k) nan zero32 (c .before .if1 .taken)
 
 returns-2 : tie.Need-returns-2
 unfolding entryOf

@@ -3,12 +3,13 @@ use Prim.Native.Nat.{ℕ}
 use mathlib.Core.Path.{ap, ap₂, _∙_}
 use mathlib.Core.Bool.{_&&_}
 use mathlib.Core.List.{List}
+use Rattle.refusal.proofs.Laws.{lowered}
+use Rattle.refusal.proofs.Tests.{tested}
 use Rattle.topology.specs.Parents.{parentOf}
 use Rattle.arm.proofs.Shape.{links-length}
 use Rattle.arm.proofs.Handed.{found-refusal, found-parents, found-mask}
 use Rattle.settled.specs.Above.{aboveFinite}
 use Rattle.one_link_move.specs.declared.ChangeTests.{ChangeTests}
-use Rattle.settled.proofs.Lowest.{lowered, tested}
 use Rattle.one_link_move.specs.Move.{testsOf, moveRefusal}
 use borrow.Author.Needs.{needs}
 use Rattle.one_link_move.proofs.move_refusal.Statement.{statement}

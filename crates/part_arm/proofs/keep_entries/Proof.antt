@@ -1,6 +1,6 @@
 -- `keep_entries`: a part of one row is copied over a part of another. Assumes nothing.
 use borrow.Author.Needs.{needs}
-use Rattle.part_arm.proofs.Laid.{copied-over}
+use Rattle.kinematics.proofs.Blocks.{copied-across}
 use Rattle.part_arm.proofs.keep_entries.Statement.{statement}
 use Rattle.part_arm.proofs.keep_entries.Tie as tie
 
@@ -41,7 +41,7 @@ same-length : tie.Need-same-length
 same-length c = search needs
 
 returns : tie.Need-returns
-returns c = copied-over (c .before .before .before .before .before .before .before .args .at) (c .before .before .before .before .before .before .before .args .start) (c .before .before .before .before .before .before .before .args .d) (c .before .before .before .before .before .before .before .args .to .now) (c .before .before .before .before .before .before .before .args .from .now) (c .before .before .copy .last .0) (c .before .before .before .before .before .before .before .pre .0) (c .before .before .before .before .before .before .before .pre .1) (c .before .before .copy .ensures)
+returns c = copied-across (c .before .before .before .before .before .before .before .args .at) (c .before .before .before .before .before .before .before .args .start) (c .before .before .before .before .before .before .before .args .d) (c .before .before .before .before .before .before .before .args .to .now) (c .before .before .before .before .before .before .before .args .from .now) (c .before .before .copy .last .0) (c .before .before .before .before .before .before .before .pre .0) (c .before .before .before .before .before .before .before .pre .1) (c .before .before .copy .ensures)
 
 pub keep-entries-spec : {M : Type 1} → statement M
 keep-entries-spec =

@@ -3,14 +3,13 @@ use Prim.Native.Nat.{ℕ, zero, suc, _<_}
 use mathlib.Core.Path.{_≡_, refl, sym, ap, _∙_}
 use mathlib.Core.Logic.{_≢_}
 use mathlib.Core.Bool.{Bool, true}
-use mathlib.Core.List.{List, [], _∷_}
+use mathlib.Core.List.{List, [], _∷_, map}
 use native.Mathlib.Omega.{arith}
-use lib.ListN.{length, take, getD}
+use lib.ListN.{length, take, getD, set}
 use lib.Seq.{take-all}
-use Rattle.refusal.proofs.Tests.{both-hold}
+use Rattle.refusal.proofs.Tests.{both-hold, both}
 use Rattle.arm.specs.Edits.{modify}
 use Rattle.arm.specs.HandedIn.{every}
-use Rattle.settled.proofs.Lists.{both}
 
 module _ {A : Type 0} (f : A → A) where
   pub length-modify : (i : ℕ) (xs : List A) → length (modify f i xs) ≡ length xs
@@ -32,6 +31,35 @@ module _ {A : Type 0} (f : A → A) where
   modify-other zero (suc j) (x ∷ xs) d h = refl
   modify-other (suc i) zero (x ∷ xs) d h = refl
   modify-other (suc i) (suc j) (x ∷ xs) d h = modify-other i j xs d (λ e. h (ap suc e))
+
+  -- as a store, of a front, of g of each
+  pub set-modify : (xs : List A) (i : ℕ) (d y : A) → y ≡ f (getD xs i d) → set xs i y ≡ modify f i xs
+  unfolding modify
+  set-modify [] i d y e = refl
+  set-modify (x ∷ xs) zero d y e = ap (λ (z : A). z ∷ xs) e
+  set-modify (x ∷ xs) (suc i) d y e = ap (λ (l : List A). x ∷ l) (set-modify xs i d y e)
+
+  pub take-modify : (n : ℕ) (xs : List A) (i : ℕ) → take n (modify f i xs) ≡ modify f i (take n xs)
+  unfolding modify
+  take-modify zero xs i = refl
+  take-modify (suc n) [] i = refl
+  take-modify (suc n) (x ∷ xs) zero = refl
+  take-modify (suc n) (x ∷ xs) (suc i) = ap (λ (l : List A). x ∷ l) (take-modify n xs i)
+
+  -- seen through g, the change is h
+  pub map-modify : {B : Type 0} (g : A → B) (h : B → B) → ((x : A) → g (f x) ≡ h (g x)) → (xs : List A) (i : ℕ)
+      → map g (modify f i xs) ≡ modify h i (map g xs)
+  unfolding modify
+  map-modify g h e [] i = refl
+  map-modify {B} g h e (x ∷ xs) zero = ap (λ (y : B). y ∷ map g xs) (e x)
+  map-modify {B} g h e (x ∷ xs) (suc i) = ap (λ (l : List B). g x ∷ l) (map-modify g h e xs i)
+
+  -- what g does not see
+  pub map-modify-same : {B : Type 0} (g : A → B) → ((x : A) → g (f x) ≡ g x) → (xs : List A) (i : ℕ) → map g (modify f i xs) ≡ map g xs
+  unfolding modify
+  map-modify-same g e [] i = refl
+  map-modify-same {B} g e (x ∷ xs) zero = ap (λ (y : B). y ∷ map g xs) (e x)
+  map-modify-same {B} g e (x ∷ xs) (suc i) = ap (λ (l : List B). g x ∷ l) (map-modify-same g e xs i)
 
   -- what the change leaves of each
   pub modify-field : {B : Type 0} (g : A → B) → ((x : A) → g (f x) ≡ g x) → (i j : ℕ) (xs : List A) (d : A) → g (getD (modify f i xs) j d) ≡ g (getD xs j d)
