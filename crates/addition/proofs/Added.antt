@@ -28,7 +28,7 @@ use Rattle.arm.specs.declared.Arm.{Arm}
 use Rattle.arm.specs.Arm.{liveLinks, linksOf, couplingsOf, tagOf, lockedOf, tagsOf, parentsOf, masksOf, dofCountOf, entriesTo, rowsOf}
 use Rattle.arm.specs.Arm as of-arm
 use Rattle.arm.specs.Edits.{modify}
-use Rattle.arm.specs.HandedIn.{every, differs, isNew, unique, tagsUnique, parentsEarlier, couplingLinksFit, jointMasksFit, linkMasksFit, rootMaskFits, rootFits, linkFinite, rowsFinite, linkAngleFits}
+use Rattle.arm.specs.HandedIn.{every, differs, isNew, unique, tagsUnique, parentsEarlier, couplingLinksFit, jointMasksFit, linkMasksFit, rootMaskFits, rootFits, linkFinite, rowsFinite, linkAngleFits, rowFinite}
 use Rattle.arm.proofs.Every.{every-map}
 use Rattle.arm.proofs.Live.{links-live, masks-live}
 use Rattle.arm.proofs.Modified.{modify-every}
@@ -38,7 +38,7 @@ use Rattle.addition.specs.declared.NewLink.{NewLink}
 use Rattle.addition.specs.NewLink.{zeros, linkOf, entriesSet, rowsWith, addedInputs}
 use Rattle.addition.specs.Addition.{eachMask, masksFit}
 use Rattle.addition.proofs.Tests.{Passed, are-masks}
-use Rattle.addition.proofs.Finite.{zeros-finite, laid-finite, link-finite, link-within, rowFinite, row-finite, row-before}
+use Rattle.addition.proofs.Finite.{zeros-finite, laid-finite, link-finite, link-within, row-finite, row-before}
 
 -- ---- a list with one more
 
@@ -175,7 +175,7 @@ module _ (a : Arm) (sized : length (a .links) ≡ linkLimit) (t : List Float) (n
       row-finite d m values (laid-enough (new .locked)) (laid-finite (new .locked)) (getD rows 1 none) (row-before d m values (laid-enough (new .locked)) (laid-finite (new .locked)) (getD rows 1 none) h))
 
   rows : rowsFinite (addedInputs a new) ≡ true
-  unfolding rowsFinite rowsOf addedInputs rowsWith
+  unfolding rowsFinite rowsOf addedInputs rowsWith rowFinite
   rows =
       ap (λ (i : ℕ). every allFinite (map (entriesTo i) (rowsWith a (new .locked)))) dofs-added
       ∙ every-map allFinite (entriesTo (d + m)) (rowsWith a (new .locked))

@@ -14,12 +14,11 @@ use Rattle.floats.proofs.FiniteRows.{zero-finite, finite-join, finite-take, fin
 use Rattle.masks.specs.Masks.{isFree, dampingOf, dampingBelow, dampingRow}
 use Rattle.masks.specs.Answers.{laid}
 use Rattle.planar.specs.Rotation.{isBeyond}
-use Rattle.planar.specs.Poses.{rotationOf, translationOf, identityPose, finiteRotation, finitePoint, finitePose}
+use Rattle.planar.specs.Poses.{rotationOf, translationOf, identityPose, finiteRotation, finitePoint, finitePose, origin}
 use Rattle.arm.specs.declared.Row.{Row}
-use Rattle.arm.specs.Arm.{entriesTo}
-use Rattle.arm.specs.HandedIn.{jointFinite, linkFinite, angleFits, linkAngleFits}
+use Rattle.arm.specs.HandedIn.{jointFinite, linkFinite, angleFits, linkAngleFits, rowFinite}
 use Rattle.addition.specs.declared.NewLink.{NewLink}
-use Rattle.addition.specs.NewLink.{zeros, origin, linkOf, entriesSet}
+use Rattle.addition.specs.NewLink.{zeros, linkOf, entriesSet}
 use Rattle.addition.specs.Addition.{floatsFinite}
 
 -- ---- the numbers
@@ -97,13 +96,11 @@ front-finite (suc d) n (x ∷ es) p =
     let h = both-hold (isFinite x) (allFinite (take (d + n) es)) e in
     both (h .0) (front-finite d n es (h .1))
 
-abbrev pub rowFinite : ℕ → Row → Bool
-rowFinite d row = allFinite (entriesTo d row)
-
 module _ (d n : ℕ) (values : List Float) (h : n ≤ length values) (v : allFinite values ≡ true) (row : Row) where
   pub row-finite : rowFinite d row ≡ true → rowFinite (d + n) (entriesSet d n values row) ≡ true
-  unfolding entriesSet
+  unfolding entriesSet rowFinite
   row-finite p = behind-finite d (row .entries) (take n values) p (finite-take n values v) n (length-take-le n values h)
 
   pub row-before : rowFinite (d + n) row ≡ true → rowFinite d row ≡ true
+  unfolding rowFinite
   row-before p = front-finite d n (row .entries) p

@@ -7,8 +7,7 @@ use Rattle.limits.specs.Limits.{linkLimit}
 use Rattle.floats.specs.Floats.{zero32}
 use Rattle.masks.specs.Masks.{dofsOf, dampingRow}
 use Rattle.masks.specs.Answers.{laid}
-use Rattle.planar.specs.declared.Point.{Point}
-use Rattle.planar.specs.Poses.{rotationOf, identityPose}
+use Rattle.planar.specs.Poses.{rotationOf, identityPose, origin}
 use Rattle.arm.specs.declared.Link.{Link}
 use Rattle.arm.specs.declared.Row.{Row}
 use Rattle.arm.specs.declared.RowName.the-variants.{Damping}
@@ -27,9 +26,6 @@ pub record Small (new : NewLink) : Type 0 where
 
 abbrev pub zeros : List Float
 zeros = replicate 3 zero32
-
-abbrev pub origin : Point
-origin = record { x = zero32; y = zero32 }
 
 -- the link; its pose and shifts are yet to be worked out
 unfoldable pub linkOf : NewLink → Link

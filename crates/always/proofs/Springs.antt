@@ -20,11 +20,11 @@ use Rattle.multibody_joint.specs.Springs.{withSpring, springSet}
 use Rattle.arm.specs.declared.Link.{Link}
 use Rattle.arm.specs.declared.Arm.{Arm}
 use Rattle.arm.specs.Arm.{liveLinks, linksOf}
-use Rattle.arm.specs.Edits.{modify, withLinks}
+use Rattle.arm.specs.Edits.{modify, withLinks, withJoint}
 use Rattle.arm.specs.HandedIn.{jointFinite, linkFinite, angleFits, linkAngleFits}
 use Rattle.arm.specs.Agree.{Sized}
 use Rattle.arm.proofs.Modified.{length-modify, modify-other, modify-field, modify-tests}
-use Rattle.arm_edits.specs.Springs.{springFinite, springEntries, springRefusal, withJoint, linkSpringSet, withLinkSpring, armSpringSet}
+use Rattle.arm_edits.specs.Springs.{springFinite, springEntries, springRefusal, linkSpringSet, withLinkSpring, armSpringSet}
 use Rattle.kinematics.specs.Blocks.{blockAt}
 use Rattle.kinematics.specs.Link.{Kept, Inputs, rootPosed, laterPosed, keptOf, rootKept, laterKept, finiteKept}
 use Rattle.kinematics.specs.State.{State, state, noLink, linkAt, parentOf, lockedOf, inputsOf, keptAt, keptOps}

@@ -1,9 +1,9 @@
 -- Keywords: the class that a word of a line opens for the words after it.
 use Prim.Native.Nat.{ℕ}
 use Prim.Native.String.{String}
-use mathlib.Core.Bool.{Bool, cond}
+use mathlib.Core.Bool.{cond}
 use mathlib.Core.List.{List, [] as []ᴸ, _∷_ as _∷ᴸ_}
-use Rattle.script_words.specs.Names.{bytes}
+use Rattle.script_words.specs.Names.{is}
 use Rattle.script_words.specs.Words.{sameBytes}
 use Rattle.answer_classes.specs.Classes.{
   splits,
@@ -31,9 +31,6 @@ use Rattle.answer_classes.specs.Classes.{
 }
 use Rattle.answer_classes.specs.declared.Keyword.{Keyword}
 use Rattle.answer_classes.specs.declared.Keyword.the-variants.{Opens, Missing}
-
-abbrev pub is : List ℕ → String → Bool
-is word name = sameBytes word (bytes name)
 
 -- what a word opens by a list of names and one of their classes
 unfoldable pub openedBy : List ℕ → List (List ℕ) → List ℕ → Keyword

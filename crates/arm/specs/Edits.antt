@@ -4,6 +4,7 @@ use mathlib.Core.List.{List, [], _∷_}
 use lib.ListN.{getD}
 use Rattle.masks.specs.Masks.{dofsBelow}
 use Rattle.masks.specs.Starts.{startOf}
+use Rattle.multibody_joint.specs.declared.Joint.{Joint}
 use Rattle.arm.specs.declared.Link.{Link}
 use Rattle.arm.specs.declared.Coupling.{Coupling}
 use Rattle.arm.specs.declared.Row.{Row}
@@ -21,6 +22,17 @@ unfoldable pub modify : {A : Type 0} → (A → A) → ℕ → List A → List A
 modify f i [] = []
 modify f zero (x ∷ xs) = f x ∷ xs
 modify f (suc i) (x ∷ xs) = x ∷ modify f i xs
+
+abbrev pub withJoint : Link → Joint → Link
+withJoint l joint = record {
+  tag = l .tag;
+  parent = l .parent;
+  joint = joint;
+  centre = l .centre;
+  world = l .world;
+  shift02 = l .shift02;
+  shift23 = l .shift23;
+}
 
 abbrev pub withLinks : Arm → List Link → Arm
 withLinks a links = record {

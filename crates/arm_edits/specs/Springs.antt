@@ -5,14 +5,13 @@ use mathlib.Core.List.{List, _∷_}
 use Rattle.refusal.specs.Refusal.{unlessOf, lowest}
 use Rattle.floats.specs.Floats.{isFinite}
 use Rattle.masks.specs.Masks.{isAxis}
-use Rattle.multibody_joint.specs.declared.Joint.{Joint}
 use Rattle.multibody_joint.specs.declared.Spring.{Spring}
 use Rattle.multibody_joint.specs.Springs.{springSet}
 use Rattle.arm.specs.declared.Link.{Link}
 use Rattle.arm.specs.declared.Arm.{Arm}
 use Rattle.arm.specs.declared.Edited.{Edited}
 use Rattle.arm.specs.Arm.{isLink}
-use Rattle.arm.specs.Edits.{edited, modify, withLinks}
+use Rattle.arm.specs.Edits.{edited, modify, withLinks, withJoint}
 use Rattle.arm.specs.HandedIn.{armEntries}
 
 unfoldable pub springFinite : Spring → Bool
@@ -27,17 +26,6 @@ springEntries a link axis s =
 
 unfoldable pub springRefusal : Arm → ℕ → ℕ → Spring → ℕ
 springRefusal a link axis s = lowest (springEntries a link axis s)
-
-abbrev pub withJoint : Link → Joint → Link
-withJoint l joint = record {
-  tag = l .tag;
-  parent = l .parent;
-  joint = joint;
-  centre = l .centre;
-  world = l .world;
-  shift02 = l .shift02;
-  shift23 = l .shift23;
-}
 
 unfoldable pub linkSpringSet : ℕ → Spring → Link → Link
 linkSpringSet axis s l = withJoint l (springSet (l .joint) axis s)

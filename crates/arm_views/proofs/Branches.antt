@@ -11,13 +11,13 @@ use lib.ListN.{length}
 use Rattle.limits.specs.Limits.{linkLimit}
 use Rattle.refusal.specs.Refusal.{unlessOf, lowerOf}
 use Rattle.topology.specs.Parents.{parentsFit, branch}
-use Rattle.topology.specs.Answers.{given, refusalOf, branchAnswer}
+use Rattle.topology.specs.Answers.{given, refusalOf, branchAnswer, out}
 use Rattle.arm.specs.declared.Arm.{Arm}
 use Rattle.arm.specs.Arm.{isLink, parentsOf}
 use Rattle.arm.specs.HandedIn.{parentsEarlier, armEntries}
 use Rattle.arm.proofs.Accepted.{first-holds, rest-accepted, counts-accepted, parents-accepted}
 use Rattle.arm.proofs.Live.{parents-live}
-use Rattle.arm_views.specs.Branch.{out, branchNeeded, branchRefusal, armBranch}
+use Rattle.arm_views.specs.Branch.{branchNeeded, branchRefusal, armBranch}
 
 -- ---- the bare parents
 

@@ -6,14 +6,9 @@ use lib.ListN.{length}
 use Rattle.refusal.specs.Refusal.{unlessOf, lowest}
 use Rattle.topology.specs.Parents.{branch}
 use Rattle.topology.specs.Answers.{Outcome, given}
-use Rattle.topology.specs.declared.Counted.{Counted}
 use Rattle.arm.specs.declared.Arm.{Arm}
 use Rattle.arm.specs.Arm.{isLink, parentsOf}
 use Rattle.arm.specs.HandedIn.{armEntries}
-
--- the answer of a call and what the memory lent to it then holds
-abbrev pub out : Counted → List ℕ → Outcome
-out r m = record { answer = r; memory = m }
 
 -- how many places a branch needs: it climbs while the parent is earlier; none where there is no such link
 unfoldable pub branchNeeded : Arm → ℕ → ℕ

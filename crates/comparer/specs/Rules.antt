@@ -10,7 +10,7 @@ use Rattle.script_words.specs.Words.{bytesBefore, partOf, sameBytes}
 use Rattle.script_read.specs.Floats.{patternOf}
 use Rattle.script_read.specs.declared.FloatWord.{FloatWord}
 use Rattle.script_read.specs.declared.FloatWord.the-variants as float
-use Rattle.answer_classes.specs.Keywords.{is}
+use Rattle.script_words.specs.Names.{is}
 use Rattle.answer_classes.specs.declared.Rule.{Rule}
 use Rattle.answer_classes.specs.declared.Rule.the-variants as rule
 use Rattle.comparer.specs.declared.Asked.{Asked}

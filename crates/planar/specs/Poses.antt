@@ -15,6 +15,9 @@ translationOf p = record { x = p .x; y = p .y }
 unfoldable pub posed : Rotation → Point → Pose
 posed r t = record { re = r .re; im = r .im; x = t .x; y = t .y }
 
+abbrev pub origin : Point
+origin = record { x = zero32; y = zero32 }
+
 abbrev pub identityPose : Pose
 identityPose = record { re = one32; im = zero32; x = zero32; y = zero32 }
 

@@ -9,8 +9,8 @@ use borrow.Author.Tests.{eqb-false, leb-true}
 use lib.Dec.{leb}
 use lib.ListN.{length}
 use Rattle.script_words.proofs.Equal.{other-length}
-use Rattle.script_words.specs.Names.{bytes}
-use Rattle.script_command.specs.Names.{is, named, kept, hasLength, hasOtherLength}
+use Rattle.script_words.specs.Names.{bytes, is}
+use Rattle.script_command.specs.Names.{named, kept, hasLength, hasOtherLength}
 use Rattle.script_command.specs.declared.Command.{Command}
 use Rattle.script_command.specs.declared.Command.the-variants.{Unknown}
 

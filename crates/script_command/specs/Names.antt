@@ -5,17 +5,13 @@ use mathlib.Core.Bool.{Bool, cond, not, _&&_}
 use mathlib.Core.List.{List, [], _∷_, _++_}
 use lib.Dec.{eqb, leb}
 use lib.ListN.{length}
-use Rattle.script_words.specs.Names.{bytes}
-use Rattle.script_words.specs.Words.{sameBytes}
+use Rattle.script_words.specs.Names.{bytes, is}
 use Rattle.script_command.specs.declared.Command.{Command}
 use Rattle.script_command.specs.declared.Command.the-variants.{Edit, Question, Loan, Poke, Unknown}
 use Rattle.script_command.specs.declared.Edit.the-variants as edit
 use Rattle.script_command.specs.declared.Question.the-variants as question
 use Rattle.script_command.specs.declared.Loan.the-variants as loan
 use Rattle.script_command.specs.declared.Poke.the-variants as poke
-
-abbrev pub is : List ℕ → String → Bool
-is word name = sameBytes word (bytes name)
 
 -- the command that a word names in a table
 unfoldable pub named : List (String × Command) → List ℕ → Command

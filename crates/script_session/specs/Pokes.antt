@@ -6,11 +6,11 @@ use lib.Ieee.{Float}
 use Rattle.planar.specs.declared.Pose.{Pose}
 use Rattle.planar.specs.declared.Rotation.{Rotation}
 use Rattle.multibody_joint.specs.declared.Joint.{Joint}
+use Rattle.multibody_joint.specs.Joint.{withMotion}
 use Rattle.arm.specs.declared.Arm.{Arm}
 use Rattle.arm.specs.declared.Coupling.{Coupling}
 use Rattle.arm.specs.declared.Link.{Link}
-use Rattle.arm.specs.Edits.{modify, withCouplings, withLinks}
-use Rattle.arm_edits.specs.Springs.{withJoint}
+use Rattle.arm.specs.Edits.{modify, withCouplings, withLinks, withJoint}
 use Rattle.working.specs.Outcome.{Outcome, says}
 use Rattle.script_command.specs.declared.Poke.{Poke}
 use Rattle.script_command.specs.declared.Poke.the-variants as poke
@@ -28,19 +28,6 @@ withMasks j locked limit motor = record {
   frame2 = j .frame2;
   coordinates = j .coordinates;
   rotation = j .rotation;
-  stiffness = j .stiffness;
-  rest = j .rest;
-}
-
-abbrev pub withMotion : Joint → List Float → Rotation → Joint
-withMotion j coordinates rotation = record {
-  locked = j .locked;
-  limit = j .limit;
-  motor = j .motor;
-  frame1 = j .frame1;
-  frame2 = j .frame2;
-  coordinates = coordinates;
-  rotation = rotation;
   stiffness = j .stiffness;
   rest = j .rest;
 }

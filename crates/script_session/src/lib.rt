@@ -2,7 +2,7 @@
 ghost use mathlib.Core.Path.{_≡_};
 ghost use lib.ListN.{set};
 ghost use Rattle.working.specs.Outcome.{out, says};
-ghost use Rattle.arm_edits.specs.Springs.{withJoint};
+ghost use Rattle.arm.specs.Edits.{withJoint};
 ghost use Rattle.script_session.specs.Pokes.{armCouplingPoked, armLinkPoked, couplingPoked, linkPoked, pokeOf, withCoordinate};
 ghost use Rattle.script_session.specs.Lent.{allLent, begun, lent, lentAfter, loanOf, pastFilled};
 ghost use Rattle.script_session.specs.Edits.{armAfter, begunBy, isEdit, isNew};

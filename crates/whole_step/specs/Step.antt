@@ -7,28 +7,16 @@ use lib.Ieee.{Float}
 use Rattle.refusal.specs.Refusal.{unlessOf, lowest}
 use Rattle.floats.specs.Floats.{isFinite}
 use Rattle.topology.specs.Tables.{each}
-use Rattle.multibody_joint.specs.declared.Joint.{Joint}
 use Rattle.multibody_joint.specs.Motion.{integrated}
 use Rattle.arm.specs.declared.Link.{Link}
 use Rattle.arm.specs.declared.RowName.the-variants.{Velocities}
 use Rattle.arm.specs.declared.Arm.{Arm}
 use Rattle.arm.specs.Arm.{liveLinks, linksOf, startAt, rowNumber}
-use Rattle.arm.specs.Edits.{withLinks}
+use Rattle.arm.specs.Edits.{withLinks, withJoint}
 use Rattle.arm.specs.HandedIn.{every, jointFinite, anglesFit, armRefusal}
 use Rattle.kinematics.specs.State.{linkAt}
 use Rattle.working.specs.Outcome.{Outcome, unlessRefused, tablesFit, workedAll}
 use Rattle.whole_step.specs.declared.StepTests.{StepTests}
-
-abbrev pub withJoint : Link → Joint → Link
-withJoint l joint = record {
-  tag = l .tag;
-  parent = l .parent;
-  joint = joint;
-  centre = l .centre;
-  world = l .world;
-  shift02 = l .shift02;
-  shift23 = l .shift23;
-}
 
 -- ---- every joint integrated
 

@@ -5,8 +5,7 @@ use lib.ListN.{replicate}
 use lib.Ieee.{Float}
 use Rattle.limits.specs.Limits.{linkLimit, couplingLimit, dofLimit}
 use Rattle.floats.specs.Floats.{zero32}
-use Rattle.planar.specs.declared.Point.{Point}
-use Rattle.planar.specs.Poses.{identityPose}
+use Rattle.planar.specs.Poses.{identityPose, origin}
 use Rattle.multibody_joint.specs.Joint.{fixedJoint}
 use Rattle.arm.specs.declared.Link.{Link}
 use Rattle.arm.specs.declared.Coupling.{Coupling}
@@ -15,19 +14,16 @@ use Rattle.arm.specs.declared.Arm.{Arm}
 use Rattle.kinematics.specs.State.{cleared}
 use Rattle.working.specs.Outcome.{Outcome, says, tablesFit}
 
-unfoldable pub zeroPoint : Point
-zeroPoint = record { x = zero32; y = zero32 }
-
 -- what stands in unused places
 unfoldable pub blankLink : Link
 blankLink = record {
   tag = 0;
   parent = 0;
   joint = fixedJoint identityPose;
-  centre = zeroPoint;
+  centre = origin;
   world = identityPose;
-  shift02 = zeroPoint;
-  shift23 = zeroPoint;
+  shift02 = origin;
+  shift23 = origin;
 }
 
 abbrev pub blankCoupling : Coupling

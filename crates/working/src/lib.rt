@@ -2,7 +2,8 @@
 ghost use mathlib.Core.Path.{_≡_};
 ghost use Rattle.working.specs.Outcome.{out, tablesFit, workedBy, workedAll};
 ghost use Rattle.working.specs.Full.{fullRefusal, fullWorking};
-ghost use Rattle.working.specs.Empty.{zeroPoint, blankLink, emptyArm, emptied};
+ghost use Rattle.planar.specs.Poses.{origin};
+ghost use Rattle.working.specs.Empty.{blankLink, emptyArm, emptied};
 use arm::Arm;
 use arm::Coupling;
 use arm::Edited;
@@ -78,7 +79,7 @@ pub fn full_working(arm: Arm, tables: &mut [f32]) -> Edited
 // ---- The empty arm
 
 fn zero_point() -> Point
-    ensures { λ p. ⌜ p ≡ zeroPoint ⌝ }
+    ensures { λ p. ⌜ p ≡ origin ⌝ }
 {
     Point { x: 0.0, y: 0.0 }
 }

@@ -1,6 +1,7 @@
 -- `with_coordinate`: a store, or past the third none. Assumes nothing.
 use borrow.Author.Needs.{needs}
-use Rattle.script_session.specs.Pokes.{withCoordinate, withMotion}
+use Rattle.multibody_joint.specs.Joint.{withMotion}
+use Rattle.script_session.specs.Pokes.{withCoordinate}
 use mathlib.Core.Path.{_≡_, sym, ap, _∙_}
 use lib.ListN.{length, length-map}
 use lib.Seq.{set-out}

@@ -1,11 +1,9 @@
 -- `zero_point`: the definition, field by field. Assumes nothing.
 use mathlib.Core.Path.{refl}
-use Rattle.working.specs.Empty.{zeroPoint}
 use Rattle.working.proofs.zero_point.Statement.{statement}
 use Rattle.working.proofs.zero_point.Tie as tie
 
 returns : tie.Need-returns
-unfolding zeroPoint
 returns c = refl
 
 pub zero-point-spec : {M : Type 1} → statement M
