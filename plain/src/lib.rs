@@ -1,9 +1,8 @@
 //! A plain Rust reading of document 01: a planar arm and every call on it, module by module in the order of that
-//! document, and the replay script over it.
+//! document.
 //!
-//! It shares no text with the proved library. It is what that library's `replay` is compared with, and what its
-//! times are measured against.
-#![forbid(unsafe_code)]
+//! It shares no text with the proved library. It is what that library is compared with, and what its times are
+//! measured against.
 
 pub mod floats;
 pub mod limits;
@@ -30,11 +29,10 @@ pub mod solve;
 
 pub mod rows;
 
-pub mod compare;
-pub mod script;
-pub mod wild;
+mod engine;
 
 pub use arm::{Arm, Coupling, Link, RowName};
+pub use engine::Engine;
 pub use joint::Joint;
 pub use pose::{Point, Pose};
 pub use refusal::{Answer, Refusal};

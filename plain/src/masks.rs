@@ -79,14 +79,14 @@ pub fn counts(locked: u32, limit: u32, motor: u32) -> Answer<MaskCounts> {
 }
 
 /// The start of each mask of a bare list, into `starts`; the answer is the total.
-pub fn starts(masks: &[u32], starts: &mut [u32]) -> Answer<u32> {
+pub fn starts(masks: &[u32], starts: &mut [u8]) -> Answer<usize> {
     Short.when(starts.len() < masks.len())?;
     Full.when(masks.len() > LINKS)?;
     Mask.when(!masks.iter().all(|&mask| is_mask(mask)))?;
     let mut total = 0;
     for (start, &mask) in starts.iter_mut().zip(masks) {
-        *start = total;
-        total += dofs(mask as u8) as u32;
+        *start = total as u8;
+        total += dofs(mask as u8);
     }
     Ok(total)
 }

@@ -2,8 +2,8 @@
 
 use super::author::Author;
 use super::floats;
-use crate::limits::{DOFS, LINKS, TABLES};
-use crate::script::LENT;
+use script::limits::LENT;
+use script::limits::{DOFS, LINKS, TABLES};
 
 pub type Write = fn(&mut Author);
 
@@ -174,7 +174,7 @@ impl Author {
 
     pub fn write_jmul(&mut self) {
         let link = self.some_link();
-        let dofs = link.map_or(0, |link| self.session.arm.links[link].joint.dofs());
+        let dofs = link.map_or(0, |link| self.session.engine.arm.links[link].joint.dofs());
         let count = match self.rng.below(12) {
             0 => dofs.saturating_sub(1),
             1 => dofs + 1,
@@ -296,7 +296,11 @@ impl Author {
 
     fn depth(&self, link: usize) -> usize {
         let mut branch = [0; LINKS];
-        self.session.arm.kinematic_branch(link as u32, &mut branch).unwrap_or(0)
+        self.session
+            .engine
+            .arm
+            .kinematic_branch(link as u32, &mut branch)
+            .unwrap_or(0)
     }
 
     /// A few calls under a loan that may be too short, then mostly the whole again.
@@ -409,7 +413,7 @@ impl Author {
     /// Mostly a matrix that fits the arm, before it is asked for.
     pub fn lend_mass(&mut self) {
         let n = self.dofs();
-        let fits = self.session.mass.len() == n * n;
+        let fits = self.session.mass().len() == n * n;
         let renew = if fits { 60 } else { 900 };
         if self.rng.chance(renew) && (n <= 16 || self.rng.chance(300)) {
             self.write_mass_of(n);
@@ -421,7 +425,7 @@ impl Author {
             let n = self.rng.below(7);
             self.write_mass_of(n);
         }
-        let side = self.session.mass.len().isqrt();
+        let side = self.session.mass().len().isqrt();
         let count = match self.rng.below(10) {
             0 => side.saturating_sub(1),
             1 => side + 1,

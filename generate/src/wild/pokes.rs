@@ -3,9 +3,9 @@
 use super::author::Author;
 use super::commands::COMMANDS;
 use super::floats;
-use crate::limits::{AXES, BLOCK, COUPLINGS, DOFS, LINKS, TABLES};
-use crate::masks::ANGLE;
-use crate::script::LENT;
+use plain::masks::ANGLE;
+use script::limits::LENT;
+use script::limits::{AXES, BLOCK, COUPLINGS, DOFS, LINKS, TABLES};
 
 fn bits(x: f32) -> String {
     format!("x{:08x}", x.to_bits())
@@ -87,7 +87,7 @@ impl Author {
                 self.command(&format!("part cut {link} {part}"));
             }
             2 => {
-                let now = self.session.arm.links[link].joint.rot;
+                let now = self.session.engine.arm.links[link].joint.rot;
                 self.command(&format!("poke rotation {link} {x} {y}"));
                 self.write_full();
                 self.write_moving();
@@ -118,7 +118,7 @@ impl Author {
     }
 
     fn poke_links(&mut self) -> (String, String) {
-        let now = self.session.arm.link_count;
+        let now = self.session.engine.arm.link_count;
         let count = match self.rng.below(6) {
             0..=2 => self.rng.pick(&[17, 18, 32, 48, 255]),
             3 => 0,
@@ -129,7 +129,7 @@ impl Author {
     }
 
     fn poke_couplings(&mut self) -> (String, String) {
-        let now = self.session.arm.coupling_count;
+        let now = self.session.engine.arm.coupling_count;
         let count = match self.rng.below(4) {
             0 | 1 => self.rng.pick(&[9, 10, 16, 255]),
             2 => now.saturating_sub(1),
@@ -141,13 +141,13 @@ impl Author {
     fn poke_tag(&mut self, link: usize) -> (String, String) {
         let other = self.rng.below(self.links().max(1));
         let tag = if self.rng.chance(700) {
-            self.session.arm.links[other].tag
+            self.session.engine.arm.links[other].tag
         } else {
             self.rng.bits()
         };
         (
             format!("tag {link} {tag}"),
-            format!("tag {link} {}", self.session.arm.links[link].tag),
+            format!("tag {link} {}", self.session.engine.arm.links[link].tag),
         )
     }
 
@@ -160,12 +160,12 @@ impl Author {
         };
         (
             format!("parent {link} {parent}"),
-            format!("parent {link} {}", self.session.arm.links[link].parent),
+            format!("parent {link} {}", self.session.engine.arm.links[link].parent),
         )
     }
 
     fn poke_mask(&mut self, link: usize) -> (String, String) {
-        let joint = &self.session.arm.links[link].joint;
+        let joint = &self.session.engine.arm.links[link].joint;
         let (name, now) = [("locked", joint.locked), ("limit", joint.limit), ("motor", joint.motor)][self.rng.below(3)];
         let mask = match self.rng.below(3) {
             0 => self.rng.pick(&[8, 15, 16, 128, 248, 255]),
@@ -183,7 +183,7 @@ impl Author {
             2 if axis == ANGLE => floats::angle(&mut self.rng),
             _ => floats::huge(&mut self.rng),
         };
-        let now = self.session.arm.links[link].joint.coords[axis];
+        let now = self.session.engine.arm.links[link].joint.coords[axis];
         (
             format!("coordinate {link} {axis} {value}"),
             format!("coordinate {link} {axis} {}", bits(now)),
@@ -196,7 +196,7 @@ impl Author {
             1 => floats::unit_rotation(&mut self.rng),
             _ => format!("{} {}", floats::tame(&mut self.rng), floats::odd(&mut self.rng)),
         };
-        let now = self.session.arm.links[link].joint.rot;
+        let now = self.session.engine.arm.links[link].joint.rot;
         (
             format!("rotation {link} {rotation}"),
             format!("rotation {link} {} {}", bits(now.re), bits(now.im)),
@@ -214,12 +214,17 @@ impl Author {
             _ => floats::tame(&mut self.rng),
         };
         let pose = format!("{rotation} {} {}", at(), at());
-        let now = self.session.arm.links[link].kept.pose.floats().map(bits).join(" ");
+        let now = self.session.engine.arm.links[link]
+            .kept
+            .pose
+            .floats()
+            .map(bits)
+            .join(" ");
         (format!("pose {link} {pose}"), format!("pose {link} {now}"))
     }
 
     fn poke_coupling(&mut self) -> (String, String) {
-        let count = self.session.arm.couplings().len();
+        let count = self.session.engine.arm.couplings().len();
         let at = if count > 0 && self.rng.chance(900) {
             self.rng.below(count)
         } else {
@@ -239,7 +244,7 @@ impl Author {
             }
         };
         let (axis1, axis2) = (axis(), axis());
-        let now = &self.session.arm.couplings[at];
+        let now = &self.session.engine.arm.couplings[at];
         (
             format!("coupling {at} {link1} {axis1} {link2} {axis2}"),
             format!("coupling {at} {} {} {} {}", now.link1, now.axis1, now.link2, now.axis2),
@@ -249,7 +254,7 @@ impl Author {
     /// A call that reads or writes the block of a link.
     fn write_over_block(&mut self, link: usize) {
         let children: Vec<usize> = (link + 1..self.links())
-            .filter(|&child| usize::from(self.session.arm.links[child].parent) == link)
+            .filter(|&child| usize::from(self.session.engine.arm.links[child].parent) == link)
             .collect();
         match self.rng.below(4) {
             0 => {
@@ -298,7 +303,7 @@ impl Author {
         };
         (
             format!("table {at} {value}"),
-            format!("table {at} {}", bits(self.session.tables[at])),
+            format!("table {at} {}", bits(self.session.engine.tables[at])),
         )
     }
 }

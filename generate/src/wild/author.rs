@@ -2,10 +2,10 @@
 
 use super::coverage::Coverage;
 use super::floats;
-use super::rng::Rng;
-use crate::limits::{AXES, LINKS};
-use crate::masks::free_axes;
-use crate::script::{Command, Line, Session, read};
+use crate::rng::Rng;
+use plain::masks::free_axes;
+use script::limits::{AXES, LINKS};
+use script::{Command, Line, Session, read};
 
 /// How an author chooses arguments: chances in a thousand, for each argument.
 #[derive(Clone, Copy, Debug)]
@@ -47,7 +47,7 @@ pub const WILD: Nature = Nature {
 pub struct Author {
     pub rng: Rng,
     pub nature: Nature,
-    pub session: Session,
+    pub session: Session<plain::Engine>,
     pub script: Vec<u8>,
     pub answers: Vec<u8>,
     pub coverage: Coverage,
@@ -64,7 +64,7 @@ impl Author {
         Author {
             rng: Rng::new(seed, index),
             nature: CALM,
-            session: Session::new(),
+            session: Session::new(plain::Engine::default()),
             script: Vec::new(),
             answers: Vec::new(),
             coverage: Coverage::default(),
@@ -98,6 +98,7 @@ impl Author {
     fn hides_entries(&self) -> bool {
         let dofs = self.dofs();
         self.session
+            .engine
             .arm
             .rows
             .iter()
@@ -109,7 +110,7 @@ impl Author {
         self.murky && line.starts_with("poke") && {
             let mut session = self.session.clone();
             session.answer(line.as_bytes(), &mut Vec::new());
-            session.arm.dofs() > self.dofs()
+            session.engine.arm.dofs() > self.dofs()
         }
     }
 
@@ -136,11 +137,11 @@ impl Author {
     }
 
     pub fn links(&self) -> usize {
-        self.session.arm.links().len()
+        self.session.engine.arm.links().len()
     }
 
     pub fn dofs(&self) -> usize {
-        self.session.arm.dofs()
+        self.session.engine.arm.dofs()
     }
 
     pub fn faulty(&mut self) -> bool {
@@ -202,7 +203,7 @@ impl Author {
 
     /// A link and an axis of it, if there is one that is free.
     pub fn free_axis(&mut self) -> (Option<usize>, String) {
-        let arm = &self.session.arm;
+        let arm = &self.session.engine.arm;
         let free: Vec<(usize, usize)> = arm
             .links()
             .iter()
@@ -239,14 +240,14 @@ impl Author {
     pub fn tag(&mut self) -> String {
         let tag = if self.links() > 0 && self.faulty() {
             let link = self.rng.below(self.links());
-            self.session.arm.links[link].tag
+            self.session.engine.arm.links[link].tag
         } else {
             let tag = match self.rng.below(4) {
                 0 => self.rng.bits(),
                 1 => self.rng.pick(&[0, 1, u32::MAX, 1 << 31]),
                 _ => 100 + self.rng.below(1000) as u32,
             };
-            if self.session.arm.has_tag(tag) {
+            if self.session.engine.arm.has_tag(tag) {
                 self.rng.bits()
             } else {
                 tag

@@ -1,9 +1,9 @@
 //! Lines at the borders of what can be read, and past them.
 
 use super::author::Author;
-use super::coverage::NAMES;
 use super::floats;
-use crate::script::MOST_LINE;
+use script::MOST_LINE;
+use script::NAMES;
 
 impl Author {
     /// A line of text of any kind.

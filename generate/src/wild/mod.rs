@@ -6,7 +6,6 @@ mod commands;
 mod coverage;
 mod floats;
 mod pokes;
-mod rng;
 mod text;
 
 pub use coverage::Coverage;

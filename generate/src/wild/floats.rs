@@ -1,9 +1,9 @@
 //! Floats as a script writes them.
 
-use super::rng::Rng;
-use crate::limits::MOST_ANGLE;
-use crate::rotation::Rotation;
-use crate::script::{MOST_DIGITS_AFTER_POINT, MOST_IN_DECIMAL};
+use crate::rng::Rng;
+use plain::limits::MOST_ANGLE;
+use plain::rotation::Rotation;
+use script::{MOST_DIGITS_AFTER_POINT, MOST_IN_DECIMAL};
 
 /// A float by its bits, in either case.
 pub fn by_bits(rng: &mut Rng, x: f32) -> String {

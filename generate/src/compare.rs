@@ -1,7 +1,7 @@
 //! Made-up scripts, answered by another program and by this one.
 
-use crate::script::{Session, answers_to};
 use crate::wild::{self, Coverage, Script};
+use script::{Session, answers_to};
 use std::io::{self, Read, Write};
 use std::process::{Command, ExitStatus, Stdio};
 
@@ -80,7 +80,7 @@ fn run(program: &str, script: &[u8]) -> io::Result<(Vec<u8>, ExitStatus)> {
 
 /// The answer of this program to each line.
 fn answers_by_line(script: &[&[u8]]) -> Vec<Vec<u8>> {
-    let mut session = Session::new();
+    let mut session = Session::new(plain::Engine::default());
     script
         .iter()
         .map(|line| {
@@ -157,7 +157,7 @@ fn shortened<'a>(program: &str, mut lines: Vec<&'a [u8]>) -> io::Result<Vec<&'a 
             let mut fewer = lines.clone();
             fewer.drain(at..(at + width).min(lines.len()));
             let text = joined(&fewer);
-            if run(program, &text)?.0 != answers_to(&text) {
+            if run(program, &text)?.0 != answers_to(plain::Engine::default(), &text) {
                 lines = fewer;
             } else {
                 at += width;

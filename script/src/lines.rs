@@ -9,7 +9,7 @@ pub struct Lines<'a> {
 }
 
 impl<'a> Lines<'a> {
-    pub fn into(text: &'a mut Vec<u8>) -> Lines<'a> {
+    pub fn onto(text: &'a mut Vec<u8>) -> Lines<'a> {
         Lines { text, begun: false }
     }
 

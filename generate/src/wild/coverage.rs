@@ -1,5 +1,6 @@
 //! How often each command was answered in each way.
 
+use script::NAMES;
 use std::collections::BTreeMap;
 use std::fmt;
 
@@ -10,43 +11,6 @@ const UNREADABLE: usize = 13;
 /// For each command, how often it got each answer.
 #[derive(Clone, Debug, Default)]
 pub struct Coverage(BTreeMap<String, [u64; WAYS]>);
-
-/// Every command of the script.
-pub const NAMES: [&str; 33] = [
-    "new",
-    "empty",
-    "full",
-    "link",
-    "row",
-    "coord",
-    "frames",
-    "com",
-    "spring",
-    "spring_of",
-    "coupling",
-    "step",
-    "root",
-    "branch",
-    "view",
-    "jmul",
-    "masks",
-    "starts",
-    "rot",
-    "split",
-    "part",
-    "mass",
-    "short",
-    "short_rows",
-    "short_out",
-    "solve",
-    "limit",
-    "friction",
-    "filljac",
-    "dump",
-    "kin",
-    "check",
-    "poke",
-];
 
 impl Coverage {
     pub fn count(&mut self, line: &[u8], answer: &[u8]) {

@@ -1,15 +1,8 @@
 //! A line read as a command.
 
-use super::words::{MOST_LINE, Words, float, number};
-use crate::arm::RowName;
-use crate::limits::{AXES, COUPLINGS, DOFS, LINKS};
-use crate::pose::{Point, Pose};
-use crate::root::RootType;
-use crate::rotation::Rotation;
-use crate::rows::Limit;
-use crate::script::session::LENT;
-use crate::split::Split;
-use crate::tree::{NewLink, Role};
+use crate::limits::{AXES, COUPLINGS, DOFS, LENT, LINKS};
+use crate::terms::{Limit, NewCoupling, NewLink, Pose, Role, RootType, RowName, Split};
+use crate::words::{MOST_LINE, Words, float, number};
 
 #[derive(Clone, Debug)]
 pub enum Command {
@@ -35,7 +28,7 @@ pub enum Command {
     },
     Com {
         link: u32,
-        com: Point,
+        com: [f32; 2],
     },
     Spring {
         link: u32,
@@ -47,12 +40,7 @@ pub enum Command {
         link: u32,
         axis: u32,
     },
-    Coupling {
-        links: [u32; 2],
-        axes: [u32; 2],
-        coeff: f32,
-        offset: f32,
-    },
+    Coupling(NewCoupling),
     Step {
         dt: f32,
     },
@@ -139,7 +127,7 @@ pub enum Poke {
     Limit(usize, u8),
     Motor(usize, u8),
     Coordinate(usize, usize, f32),
-    Rotation(usize, Rotation),
+    Rotation(usize, [f32; 2]),
     Pose(usize, Pose),
     Coupling {
         at: usize,
@@ -150,6 +138,43 @@ pub enum Poke {
     },
     Table(usize, f32),
 }
+
+/// The first word of every command.
+pub const NAMES: [&str; 33] = [
+    "new",
+    "empty",
+    "full",
+    "link",
+    "row",
+    "coord",
+    "frames",
+    "com",
+    "spring",
+    "spring_of",
+    "coupling",
+    "step",
+    "root",
+    "branch",
+    "view",
+    "jmul",
+    "masks",
+    "starts",
+    "rot",
+    "split",
+    "part",
+    "mass",
+    "short",
+    "short_rows",
+    "short_out",
+    "solve",
+    "limit",
+    "friction",
+    "filljac",
+    "dump",
+    "kin",
+    "check",
+    "poke",
+];
 
 /// What a line is.
 pub enum Line {
@@ -178,16 +203,6 @@ fn command(words: &mut Words) -> Option<Command> {
 }
 
 fn command_word(w: &mut Words) -> Option<Command> {
-    const SPLITS: [(&str, Split); 2] = [("delete", Split::Delete), ("cut", Split::Cut)];
-    const ROLES: [(&str, Role); 2] = [("vel", Role::Velocities), ("acc", Role::Accelerations)];
-    const ROOTS: [(&str, RootType); 2] = [("free", RootType::Free), ("fixed", RootType::Fixed)];
-    const ROWS: [(&str, RowName); 5] = [
-        ("vel", RowName::Velocities),
-        ("damp", RowName::Damping),
-        ("arm", RowName::Armature),
-        ("fric", RowName::Frictions),
-        ("acc", RowName::Accelerations),
-    ];
     Some(match w.word()? {
         b"new" => Command::New,
         b"empty" => Command::Empty,
@@ -200,10 +215,10 @@ fn command_word(w: &mut Words) -> Option<Command> {
             motor: w.number()?,
             frame1: w.pose()?,
             frame2: w.pose()?,
-            com: w.point()?,
+            com: w.floats()?,
         }),
         b"row" => Command::Row {
-            row: w.one_of(&ROWS)?,
+            row: w.one_of(&RowName::WORDS)?,
             link: w.number()?,
             axis: w.number()?,
             value: w.float()?,
@@ -220,7 +235,7 @@ fn command_word(w: &mut Words) -> Option<Command> {
         },
         b"com" => Command::Com {
             link: w.number()?,
-            com: w.point()?,
+            com: w.floats()?,
         },
         b"spring" => Command::Spring {
             link: w.number()?,
@@ -234,21 +249,21 @@ fn command_word(w: &mut Words) -> Option<Command> {
         },
         b"coupling" => {
             let [link1, axis1, link2, axis2] = [w.number()?, w.number()?, w.number()?, w.number()?];
-            Command::Coupling {
+            Command::Coupling(NewCoupling {
                 links: [link1, link2],
                 axes: [axis1, axis2],
                 coeff: w.float()?,
                 offset: w.float()?,
-            }
+            })
         }
         b"step" => Command::Step { dt: w.float()? },
         b"root" => Command::Root {
-            to: w.one_of(&ROOTS)?,
+            to: w.one_of(&RootType::WORDS)?,
             pose: w.pose()?,
         },
         b"branch" => Command::Branch { link: w.number()? },
         b"view" => Command::View {
-            role: w.one_of(&ROLES)?,
+            role: w.one_of(&Role::WORDS)?,
             link: w.number()?,
         },
         b"jmul" => Command::Jmul {
@@ -263,11 +278,11 @@ fn command_word(w: &mut Words) -> Option<Command> {
         b"starts" => Command::Starts { masks: w.rest(number)? },
         b"rot" => Command::Rot { angle: w.float()? },
         b"split" => Command::Split {
-            how: w.one_of(&SPLITS)?,
+            how: w.one_of(&Split::WORDS)?,
             link: w.number()?,
         },
         b"part" => Command::Part {
-            how: w.one_of(&SPLITS)?,
+            how: w.one_of(&Split::WORDS)?,
             link: w.number()?,
             part: w.number()?,
         },
@@ -330,13 +345,7 @@ fn poke(w: &mut Words) -> Option<Poke> {
         b"limit" => Poke::Limit(link(w)?, w.byte()?),
         b"motor" => Poke::Motor(link(w)?, w.byte()?),
         b"coordinate" => Poke::Coordinate(link(w)?, below(w, AXES)?, w.float()?),
-        b"rotation" => Poke::Rotation(
-            link(w)?,
-            Rotation {
-                re: w.float()?,
-                im: w.float()?,
-            },
-        ),
+        b"rotation" => Poke::Rotation(link(w)?, w.floats()?),
         b"pose" => Poke::Pose(link(w)?, w.pose()?),
         b"coupling" => Poke::Coupling {
             at: below(w, COUPLINGS)?,
