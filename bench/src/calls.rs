@@ -1,79 +1,12 @@
 //! The calls that change an arm.
 
-use crate::arms::{CENTRE, FRAME1, FRAME2, chain, handed_in, plain_of, plain_point, plain_pose, told};
+use crate::arms::{chain, handed_in, plain_of, told};
+use crate::asked::{Asked, Call, by_value};
 use crate::table::{Table, Times};
-use crate::text::{self, Asked};
+use crate::text;
 use crate::times::least;
-use giellavor::abi::Edited;
-use giellavor::{LINKS, NewLink, axis, ffi};
-use plain::{Answer, RowName, tree};
+use giellavor::LINKS;
 use std::hint::black_box;
-
-/// A call on a chain, as each side has it.
-#[derive(Clone, Copy, Debug)]
-pub enum Call {
-    WriteVelocity { link: u32 },
-    AddLink { parent: u32 },
-    Move { link: u32 },
-    FullWorking,
-    Step,
-}
-
-const TAG: u32 = 7;
-pub const VALUE: f32 = 0.5;
-/// Nothing moves, so that every call is the same.
-pub const DT: f32 = 0.0;
-
-impl Call {
-    pub fn ours(self, edited: &mut Edited, tables: &mut [f32]) {
-        match self {
-            Call::WriteVelocity { link } => ffi::write_velocity(edited, link, axis::ANGLE, VALUE),
-            Call::AddLink { parent } => {
-                let new = NewLink {
-                    frame1: FRAME1,
-                    frame2: FRAME2,
-                    centre: CENTRE,
-                    ..NewLink::free(TAG, parent)
-                };
-                ffi::add_link(edited, tables, new)
-            }
-            Call::Move { link } => ffi::move_coordinate(edited, tables, link, axis::X, VALUE),
-            Call::FullWorking => ffi::full_working(edited, tables),
-            Call::Step => ffi::step(edited, tables, DT),
-        }
-    }
-
-    pub fn rust(self, arm: &mut plain::Arm, tables: &mut [f32]) -> Answer {
-        match self {
-            Call::WriteVelocity { link } => arm.write_row(RowName::Velocities, link, axis::ANGLE, VALUE),
-            Call::AddLink { parent } => {
-                let new = tree::NewLink {
-                    tag: TAG,
-                    parent,
-                    locked: 0,
-                    limit: 0,
-                    motor: 0,
-                    frame1: plain_pose(FRAME1),
-                    frame2: plain_pose(FRAME2),
-                    com: plain_point(CENTRE),
-                };
-                arm.add_link(tables, &new)
-            }
-            Call::Move { link } => arm.move_coordinate(tables, link, axis::X, VALUE),
-            Call::FullWorking => arm.work_out(tables),
-            Call::Step => arm.step(tables, DT),
-        }
-    }
-}
-
-/// Plain Rust with an arm that goes in by value and comes out in its place.
-#[inline(never)]
-pub fn by_value(arm: &mut plain::Arm, tables: &mut [f32], call: Call) -> Answer {
-    let mut own = arm.clone();
-    let answer = call.rust(&mut own, tables);
-    *arm = own;
-    answer
-}
 
 /// A call on a chain of so many links. Each time it is handed the chain as it was made; an addition's link is taken back before it.
 fn timed(call: Call, links: usize) -> Times {

@@ -3,24 +3,12 @@
 use crate::arms::{Ours, Plain, chain, mass, plain_of, same};
 use crate::calls::SIZES;
 use crate::table::{Table, Times};
-use crate::text::{self, Asked};
+use crate::asked::{Asked, FORCE, LIMITS};
+use crate::text;
 use giellavor::{Force, Limits, axis, ffi};
 use plain::rows::{Limit, Vectors};
 use std::hint::black_box;
 
-pub const LIMITS: Limits = Limits {
-    position: 2.0,
-    min: 0.0,
-    max: 1.0,
-    dt: 0.125,
-    erp_inv_dt: 10.0,
-    cfm_coeff: 0.5,
-};
-pub const FORCE: Force = Force {
-    x: 0.5,
-    y: 0.25,
-    torque: -0.5,
-};
 
 /// A chain on both sides, its last link and its mass matrix.
 struct Given {

@@ -1,7 +1,7 @@
 //! A call so many times, on one side alone: what `bench/count` counts the instructions of.
 
 use crate::arms::{chain, handed_in, plain_of};
-use crate::calls::{Call, by_value};
+use crate::asked::{Call, by_value};
 use giellavor::LINKS;
 use std::hint::black_box;
 

@@ -1,7 +1,7 @@
 //! The proved functions beside plain Rust, in one process and on the same inputs: ns and their ratio, and that the results are the same, bit for bit.
-#![forbid(unsafe_code)]
 
 mod arms;
+mod asked;
 mod boundary;
 mod calls;
 mod constraints;

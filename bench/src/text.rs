@@ -1,16 +1,7 @@
 //! The crate's own text among its stand-ins, where it is at hand (`oracle/crate`). It tests nothing and refuses nothing; a move works every link out.
 
-use crate::calls::Call;
+use crate::asked::Asked;
 use giellavor::abi::Arm;
-
-/// What is asked of an arm.
-#[derive(Clone, Copy)]
-#[cfg_attr(not(feature = "text"), allow(dead_code))]
-pub enum Asked<'a> {
-    Call(Call),
-    LimitRow { link: u32, mass: &'a [f32] },
-    FillJacobians { link: u32, mass: &'a [f32] },
-}
 
 #[cfg(not(feature = "text"))]
 pub fn time(_: &Arm, _: Asked) -> Option<f64> {
@@ -23,8 +14,7 @@ pub use there::time;
 #[cfg(feature = "text")]
 mod there {
     use super::*;
-    use crate::calls::{DT, VALUE};
-    use crate::constraints::{FORCE, LIMITS};
+    use crate::asked::{Call, DT, FORCE, LIMITS, VALUE};
     use crate::times::least;
     use giellavor::{Pose, axis};
     use rapier::{Link, Row, Softness};

@@ -29,6 +29,17 @@ macro_rules! exported {
     (@ $name:ident $result:tt [$($given:tt)*] [$($crosses:tt)*] [$($value:tt)*] $p:ident: $of:ty, $($rest:tt)*) => {
         exported!(@ $name $result [$($given)* $p: $of,] [$($crosses)* _: $of,] [$($value)* $p,] $($rest)*);
     };
+    (@ $name:ident [] [$e:ident: &mut Edited, $($given:tt)*] [_: *mut Edited, $($crosses:tt)*] [&raw mut *$x:ident, $($value:tt)*]) => {
+        #[must_use]
+        pub fn $name($e: &mut Edited, $($given)*) -> u8 {
+            unsafe extern "C" {
+                #[link_name = concat!("giellavor_", stringify!($name))]
+                fn exported($($crosses)*) -> Edited;
+            }
+            *$e = unsafe { exported($($value)*) };
+            $e.refusal
+        }
+    };
     (@ $name:ident [$($result:tt)*] [$($given:tt)*] [$($crosses:tt)*] [$($value:tt)*]) => {
         pub fn $name($($given)*) $($result)* {
             unsafe extern "C" {

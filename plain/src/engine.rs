@@ -1,8 +1,7 @@
 //! The plain reading as what answers a script.
 
 use crate::arm::{Arm, RowName};
-use crate::kinematics::block_of;
-use crate::limits::{AXES, BLOCK, DOFS, LENT, PAST, TABLES};
+use crate::limits::{AXES, DOFS, LENT, PAST, TABLES};
 use crate::masks;
 use crate::pose::{Point, Pose};
 use crate::refusal::Refusal;
@@ -304,20 +303,8 @@ impl script::Engine for Engine {
         }
     }
 
-    fn jacobian(&self, link: usize, row: usize) -> Cow<'_, [f32]> {
-        Cow::Borrowed(&block_of(&self.tables, link)[row * DOFS..][..DOFS])
-    }
-
-    fn check(&self) -> Answer<[usize; 2]> {
-        let (links, dofs) = (self.arm.links().len(), self.arm.dofs());
-        let is_used = |at: usize| at / BLOCK < links && at % DOFS < dofs;
-        let (tables, past) = self.tables.split_at(TABLES);
-        let spare = tables
-            .iter()
-            .enumerate()
-            .filter(|&(at, x)| !is_used(at) && x.to_bits() != 0);
-        let changed = past.iter().filter(|x| x.to_bits() != PAST);
-        Ok([spare.count(), changed.count()])
+    fn tables(&self) -> Option<&[f32]> {
+        Some(&self.tables)
     }
 
     fn poke(&mut self, poke: Poke) -> Answer {

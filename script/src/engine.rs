@@ -1,7 +1,7 @@
 //! What answers a script: an arm with its lent memory.
 
 use crate::command::Poke;
-use crate::limits::{AXES, LINKS};
+use crate::limits::{AXES, BLOCK, DOFS, LINKS};
 use crate::terms::{
     ConstraintRow, Coupling, Kept, Limit, LinkState, MaskCounts, NewCoupling, NewLink, Pose, Role, RootType, RowName,
     Split,
@@ -104,10 +104,8 @@ pub trait Engine {
     /// A row, at least as long as there are DoFs.
     fn row(&self, row: RowName) -> Cow<'_, [f32]>;
     fn kept(&self, link: usize) -> Kept;
-    /// A row of a link's Jacobian, at least as long as there are DoFs.
-    fn jacobian(&self, link: usize, row: usize) -> Cow<'_, [f32]>;
-    /// How many floats of the tables that no link's used column holds aren't plus zero, and how many past them changed.
-    fn check(&self) -> Answer<[usize; 2]>;
+    /// The tables, and what is lent past them; none where an engine keeps its Jacobians elsewhere.
+    fn tables(&self) -> Option<&[f32]>;
     /// A write past the calls.
     fn poke(&mut self, poke: Poke) -> Answer;
 
@@ -124,5 +122,12 @@ pub trait Engine {
 
     fn dofs(&self) -> usize {
         self.start(self.links())
+    }
+
+    /// A row of a link's Jacobian, at least as long as there are DoFs.
+    fn jacobian(&self, link: usize, row: usize) -> Cow<'_, [f32]> {
+        let first = link * BLOCK + row * DOFS;
+        let row = self.tables().and_then(|tables| tables.get(first..first + DOFS));
+        Cow::Borrowed(row.unwrap_or_default())
     }
 }

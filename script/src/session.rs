@@ -2,7 +2,7 @@
 
 use crate::command::{Command, Line, read};
 use crate::engine::{Answer, Engine, No};
-use crate::limits::{COUPLINGS, DOFS, LINKS, PAST};
+use crate::limits::{BLOCK, COUPLINGS, DOFS, LINKS, PAST, TABLES};
 use crate::lines::Lines;
 use crate::terms::{ConstraintRow, RowName};
 
@@ -163,11 +163,7 @@ impl<E: Engine> Session<E> {
             Command::Poke(poke) => engine.poke(poke)?,
             Command::Dump => dump(engine, lines),
             Command::Kin => kin(engine, lines),
-            Command::Check => {
-                let [spare, past] = engine.check()?;
-                lines.word("check").word("spare").number(spare);
-                lines.word("past").number(past).end();
-            }
+            Command::Check => check(engine, lines)?,
             Command::Solve { .. } | Command::Limit { .. } | Command::Friction { .. } | Command::Filljac { .. } => {
                 return self.solve(command, lines);
             }
@@ -322,4 +318,18 @@ fn kin(engine: &impl Engine, lines: &mut Lines) {
             lines.floats(lent(&engine.jacobian(number, row), dofs)).end();
         }
     }
+}
+
+/// How many floats of the tables that no link's used column holds aren't plus zero, and how many past them changed.
+fn check(engine: &impl Engine, lines: &mut Lines) -> Answer {
+    let (links, dofs) = (engine.links(), engine.dofs());
+    let is_used = |at: usize| at / BLOCK < links && at % DOFS < dofs;
+    let lent = engine.tables().ok_or(No::Unasked)?;
+    let (tables, past) = lent.split_at_checked(TABLES).ok_or(No::Unasked)?;
+    let places = tables.iter().enumerate();
+    let spare = places.filter(|&(at, x)| !is_used(at) && x.to_bits() != 0);
+    let changed = past.iter().filter(|x| x.to_bits() != PAST);
+    lines.word("check").word("spare").number(spare.count());
+    lines.word("past").number(changed.count()).end();
+    Ok(())
 }

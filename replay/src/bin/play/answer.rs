@@ -1,6 +1,6 @@
-//! The answers of `replay`, one for each command.
+//! The answer to a command, as the script has it.
 
-use crate::refusal::{Refusal, refused};
+use giellavor::Refusal;
 
 /// An answer: what its first line says, and the lines after it, in words.
 pub struct Answer {
@@ -12,31 +12,32 @@ pub enum Verdict {
     Ok,
     Refused(Refusal),
     Unreadable,
+    /// What the library did though it may not, in words.
+    Wrong(String),
 }
 
-fn verdict(line: &str) -> Option<Verdict> {
-    match line.split_once(' ') {
-        None if line == "ok" => Some(Verdict::Ok),
-        None if line == "unreadable" => Some(Verdict::Unreadable),
-        Some(("refused", number)) => refused(number.parse().ok()?).err().map(Verdict::Refused),
-        _ => None,
+impl Verdict {
+    fn of(line: &str) -> Verdict {
+        let number = line.strip_prefix("refused ").and_then(|number| number.parse().ok());
+        match number.and_then(Refusal::from_number) {
+            Some(refusal) => Verdict::Refused(refusal),
+            None if line == "ok" => Verdict::Ok,
+            None if line == "unreadable" => Verdict::Unreadable,
+            None => Verdict::Wrong(String::from(line)),
+        }
     }
 }
 
-/// The answers one after the other: each begins with its verdict.
-pub fn each(text: &str) -> impl Iterator<Item = Answer> {
-    let mut lines = text.lines().peekable();
-    std::iter::from_fn(move || {
-        let verdict = verdict(lines.next()?)?;
-        let mut more = Vec::new();
-        while let Some(line) = lines.next_if(|line| self::verdict(line).is_none()) {
-            more.push(line.split(' ').map(String::from).collect());
-        }
-        Some(Answer {
+impl Answer {
+    pub fn of(text: &str) -> Answer {
+        let mut lines = text.lines();
+        let verdict = Verdict::of(lines.next().unwrap_or_default());
+        let words = |line: &str| line.split(' ').map(String::from).collect();
+        Answer {
             verdict,
-            lines: more,
-        })
-    })
+            lines: lines.map(words).collect(),
+        }
+    }
 }
 
 /// A float out of the eight digits of its bits.

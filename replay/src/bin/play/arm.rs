@@ -30,11 +30,7 @@ impl Link {
 
     /// Its free axes, each with its coordinate.
     fn axes(&self) -> String {
-        let coordinates = self
-            .words
-            .iter()
-            .skip_while(|word| *word != "coords")
-            .skip(1);
+        let coordinates = self.words.iter().skip_while(|word| *word != "coords").skip(1);
         let free: Vec<String> = ["x", "y", "angle"]
             .iter()
             .zip(coordinates)
@@ -73,10 +69,7 @@ fn lines_of<'a>(answer: &'a Answer, first: &'a str) -> impl Iterator<Item = &'a 
 
 fn kept_of(kin: &Answer, pose: &[String]) -> Kept {
     let number = &pose[..1];
-    let lines = kin
-        .lines
-        .iter()
-        .filter(|line| line[1..].starts_with(number));
+    let lines = kin.lines.iter().filter(|line| line[1..].starts_with(number));
     Kept {
         pose: pose[1..].to_vec(),
         all: lines.flat_map(|line| widened(line)).collect(),
@@ -100,9 +93,7 @@ impl Arm {
                     words: words[1..].to_vec(),
                 })
                 .collect(),
-            kept: lines_of(kin, "pose")
-                .map(|pose| kept_of(kin, pose))
-                .collect(),
+            kept: lines_of(kin, "pose").map(|pose| kept_of(kin, pose)).collect(),
             printed: dump.lines.iter().chain(&kin.lines).cloned().collect(),
         }
     }
@@ -114,11 +105,7 @@ impl Arm {
 
     /// The links of both arms, apart by whether what is kept of them differs in any bit.
     pub fn moved(&self, after: &Arm) -> (Vec<usize>, Vec<usize>) {
-        (0..after.kept.len()).partition(|&i| {
-            self.kept
-                .get(i)
-                .is_none_or(|kept| kept.all != after.kept[i].all)
-        })
+        (0..after.kept.len()).partition(|&i| self.kept.get(i).is_none_or(|kept| kept.all != after.kept[i].all))
     }
 
     pub fn link_count(&self) -> usize {
@@ -137,11 +124,7 @@ impl Arm {
     fn branch(&self, link: usize, depth: usize, text: &mut String) {
         let l = &self.links[link];
         let indent = "   ".repeat(depth);
-        text.push_str(&format!(
-            "    {indent}{link}: tag {}, {}\n",
-            l.tag(),
-            l.axes()
-        ));
+        text.push_str(&format!("    {indent}{link}: tag {}, {}\n", l.tag(), l.axes()));
         for child in (link + 1)..self.links.len() {
             if self.links[child].parent() == link {
                 self.branch(child, depth + 1, text);

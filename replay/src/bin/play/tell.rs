@@ -5,7 +5,8 @@ use crate::arm::Arm;
 
 /// An answer to a command, told with what it did to the arm.
 pub fn answer(command: &str, answer: &Answer, before: &Arm, after: &Arm) -> String {
-    match answer.verdict {
+    match &answer.verdict {
+        Verdict::Wrong(what) => format!("    THE LIBRARY BROKE A PROMISE: {what}\n"),
         Verdict::Unreadable => format!("    unreadable; {}\n", left(before, after)),
         Verdict::Refused(refusal) => format!("    {refusal}; {}\n", left(before, after)),
         Verdict::Ok => done(command, answer, before, after),
@@ -121,11 +122,7 @@ fn said(line: &[String]) -> String {
             "spare places that aren't +0: {}; floats past the tables that changed: {}",
             line[2], line[4]
         ),
-        _ => line
-            .iter()
-            .map(|word| spoken(word))
-            .collect::<Vec<_>>()
-            .join(" "),
+        _ => line.iter().map(|word| spoken(word)).collect::<Vec<_>>().join(" "),
     }
 }
 
