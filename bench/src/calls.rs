@@ -4,8 +4,8 @@ use crate::arms::{CENTRE, FRAME1, FRAME2, chain, handed_in, plain_of, plain_poin
 use crate::table::{Table, Times};
 use crate::text::{self, Asked};
 use crate::times::least;
-use giellavor::abi::Edited;
-use giellavor::{LINKS, NewLink, axis, ffi};
+use giellavor::abi::{Edited, NewLink};
+use giellavor::{LINKS, axis, ffi};
 use plain::{Answer, RowName, tree};
 use std::hint::black_box;
 
