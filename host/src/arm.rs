@@ -55,9 +55,9 @@ impl Arm {
 
     /// An arm of a state and tables that were kept elsewhere, as [`ffi`] and [`abi`] have them, or [`Arm::state`] and [`Arm::tables`].
     ///
-    /// It is tested as any arm that is handed in, and worked out in full: whatever the state keeps of its links, and whatever the tables hold, the arm's
-    /// picture is fresh. Where nothing was stale ([`abi::Arm::is_settled`]) every bit up to the counts is what it was. Floats past the tables are left
-    /// out.
+    /// It is tested as any arm that is handed in, and worked out in full: whatever the state keeps of its links, and whatever the tables hold, the picture
+    /// is fresh from here on. Where nothing was stale every bit up to the counts is what it was: [`abi::Arm::is_settled`] asks for that alone, and at
+    /// [`abi`] stands what who calls [`ffi`] must keep to. Floats past the tables are left out.
     ///
     /// # Errors
     ///
@@ -226,7 +226,9 @@ impl Arm {
     /// # Errors
     ///
     /// [`Refusal::NoSuchLink`], where there is no such part too, and [`Refusal::ResultNotFinite`].
-    pub fn part(&self, split: Split, number: u32) -> Result<Arm, Refusal> {
+    pub fn part(&self, split: Split, number: usize) -> Result<Arm, Refusal> {
+        // No split has as many parts.
+        let number = u32::try_from(number).unwrap_or(u32::MAX);
         owned(|tables| match split {
             Split::Delete(link) => ffi::part_delete(self.state(), self.number(link), number, tables),
             Split::Cut(link) => ffi::part_cut(self.state(), self.number(link), number, tables),
@@ -240,7 +242,7 @@ impl Arm {
     /// [`Refusal::NoSuchLink`] and [`Refusal::ResultNotFinite`].
     pub fn parts(&self, split: Split) -> Result<Vec<Arm>, Refusal> {
         let (count, _) = self.split_map(split)?;
-        (0..).take(count).map(|number| self.part(split, number)).collect()
+        (0..count).map(|number| self.part(split, number)).collect()
     }
 }
 

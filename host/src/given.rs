@@ -5,7 +5,8 @@ use crate::which::{Tag, Which};
 
 /// What is given of a new link. Its coordinates and springs start as zeros. Masks are any numbers: none is cut.
 ///
-/// Bit 0 of a mask is X, bit 1 is Y, bit 2 the angle.
+/// `NewLink::hinged(12, Tag(11))` is a link tagged 12 on the link tagged 11; `NewLink::hinged(12, 1)` is one on link number 1. Bit 0 of a mask is X, bit 1
+/// is Y, bit 2 the angle.
 #[derive(Clone, Copy, Debug, PartialEq)]
 pub struct NewLink {
     /// Its tag, which no other link of the arm has.

@@ -33,7 +33,7 @@ pub enum Refusal {
     ResultNotFinite,
     /// A number that this crate does not know.
     Unknown(u8),
-    /// 255: the linked archive is of another version or layout. It is no refusal of the library's: every call gives it, and none is made.
+    /// 255: the linked archive is of another version or layout than this crate is for. Every call is refused by it, and no function of the archive is run.
     WrongArchive,
 }
 

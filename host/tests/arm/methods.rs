@@ -99,7 +99,7 @@ fn read(wild: &mut Wild, arm: &Arm) -> bool {
     };
     match wild.random.below(14) {
         0 => arm.split_map(split).is_ok(),
-        1 => arm.part(split, number(wild)).is_ok(),
+        1 => arm.part(split, number(wild) as usize).is_ok(),
         2 => arm.parts(split).is_ok(),
         3 => arm.link(link).is_ok_and(|link| link.rows().count() == 3),
         4 => arm

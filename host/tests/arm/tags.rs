@@ -231,7 +231,7 @@ fn a_higher_refusal_is_not() {
         arm.move_coordinate(GONE, 3, nan).err(),
         arm.move_frames(GONE, nowhere, nowhere).err(),
         arm.move_centre(GONE, nowhere.translation()).err(),
-        arm.part(Split::cut(GONE), u32::MAX).err(),
+        arm.part(Split::cut(GONE), usize::MAX).err(),
         arm.spring(GONE, 3).err(),
         arm.jacobian_mul_coordinates(GONE, &[nan; 3]).err(),
     ];
@@ -265,4 +265,22 @@ fn names_are_told() {
     assert_eq!(Which::from(3).to_string(), "link 3");
     assert_eq!(Which::from(Tag(12)).to_string(), "the link tagged 12");
     assert_eq!((Tag::from(12), u32::from(Tag(12))), (Tag(12), 12));
+}
+
+/// A part by its number, of which a split has few.
+#[test]
+fn a_part_that_is_not_there_is_refused() {
+    let arm = arm();
+    let split = Split::delete(TAGS[1]);
+    let (count, places) = arm.split_map(split).unwrap();
+    assert_eq!(count, 3);
+    for (link, place) in arm.links().zip(places) {
+        let Some(place) = place else { continue };
+        let part = arm.part(split, place.part).unwrap();
+        assert_eq!(part.link(place.number).unwrap().tag(), link.tag());
+        assert_eq!(part.link(link.tag()).unwrap().number(), place.number);
+    }
+    for number in [3, 256, 1 << 32, usize::MAX] {
+        assert_eq!(arm.part(split, number).err(), Some(Refusal::NoSuchLink));
+    }
 }
