@@ -44,9 +44,8 @@ pub fn chain(links: usize) -> Result<Ours, Refusal> {
     }
     for _ in 0..COUPLINGS {
         arm.add_coupling(NewCoupling {
-            axis2: 1,
             coefficient: 0.5,
-            ..NewCoupling::default()
+            ..NewCoupling::between(0, 0, 0, 1)
         })?;
     }
     Ok((*arm.state(), arm.tables().to_vec()))

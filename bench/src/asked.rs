@@ -1,8 +1,8 @@
 //! What is asked of an arm, as each side has it.
 
 use crate::arms::{CENTRE, FRAME1, FRAME2, plain_point, plain_pose};
-use giellavor::abi::Edited;
-use giellavor::{Force, Limits, NewLink, axis, ffi};
+use giellavor::abi::{Edited, NewLink};
+use giellavor::{Force, Limits, axis, ffi};
 use plain::{Answer, RowName, tree};
 
 /// What is asked of an arm.
@@ -30,7 +30,8 @@ pub const VALUE: f32 = 0.5;
 pub const DT: f32 = 0.0;
 
 impl Call {
-    pub fn ours(self, edited: &mut Edited, tables: &mut [f32]) {
+    /// The refusal's number, 0 for none.
+    pub fn ours(self, edited: &mut Edited, tables: &mut [f32]) -> u8 {
         match self {
             Call::WriteVelocity { link } => ffi::write_velocity(edited, link, axis::ANGLE, VALUE),
             Call::AddLink { parent } => {

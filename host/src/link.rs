@@ -1,39 +1,8 @@
-//! Links: what is given of a new one, and what is read of one in an arm.
+//! What is read of a link in an arm.
 
-use crate::abi::{Joint, Link, NewLink, Point, Pose};
+use crate::abi::{Joint, Link, Point, Pose};
 use crate::limits::DOFS;
-
-impl NewLink {
-    /// A link whose joint is locked on every axis, frames and centre of mass at the origin. The rest is set by its fields.
-    pub const fn fixed(tag: u32, parent: u32) -> NewLink {
-        NewLink {
-            tag,
-            parent,
-            locked: 7,
-            limit: 0,
-            motor: 0,
-            frame1: Pose::IDENTITY,
-            frame2: Pose::IDENTITY,
-            centre: Point { x: 0.0, y: 0.0 },
-        }
-    }
-
-    /// The same, free to turn.
-    pub const fn hinged(tag: u32, parent: u32) -> NewLink {
-        NewLink {
-            locked: 3,
-            ..NewLink::fixed(tag, parent)
-        }
-    }
-
-    /// The same, free on every axis.
-    pub const fn free(tag: u32, parent: u32) -> NewLink {
-        NewLink {
-            locked: 0,
-            ..NewLink::fixed(tag, parent)
-        }
-    }
-}
+use crate::which::Tag;
 
 /// A link of an arm, with what is kept of it: its picture.
 #[derive(Clone, Copy, Debug)]
@@ -44,44 +13,56 @@ pub struct LinkView<'a> {
 }
 
 impl<'a> LinkView<'a> {
-    /// Its place in the arm. It changes where an earlier link goes; the tag stays.
+    /// Its place in the arm. A split numbers the links of each part anew; the tag stays.
+    #[must_use]
     pub fn number(&self) -> u32 {
         self.number
     }
 
-    pub fn tag(&self) -> u32 {
-        self.link.tag
+    /// Its tag, by which it is named as long as it is there.
+    #[must_use]
+    pub fn tag(&self) -> Tag {
+        Tag(self.link.tag)
     }
 
     /// The number of its parent; the root's is 0, its own.
+    #[must_use]
     pub fn parent(&self) -> u32 {
         self.link.parent.into()
     }
 
+    /// Its joint: masks, frames, coordinates and springs.
+    #[must_use]
     pub fn joint(&self) -> &'a Joint {
         &self.link.joint
     }
 
+    /// Its centre of mass, as it was given: as the link sees it.
+    #[must_use]
     pub fn centre(&self) -> Point {
         self.link.centre
     }
 
     /// Its pose in the world.
+    #[must_use]
     pub fn pose(&self) -> Pose {
         self.link.world
     }
 
     /// From the parent's centre of mass to the joint.
+    #[must_use]
     pub fn shift02(&self) -> Point {
         self.link.shift02
     }
 
     /// From the joint to the own centre of mass.
+    #[must_use]
     pub fn shift23(&self) -> Point {
         self.link.shift23
     }
 
     /// Its Jacobian: rows X, Y and angle, a column for each place of a degree of freedom; +0 in unused ones.
+    #[must_use]
     pub fn block(&self) -> &'a [f32] {
         self.block
     }
@@ -89,12 +70,5 @@ impl<'a> LinkView<'a> {
     /// The three rows of its Jacobian.
     pub fn rows(&self) -> impl Iterator<Item = &'a [f32]> + use<'a> {
         self.block.chunks_exact(DOFS)
-    }
-
-    /// Pose and shifts by their bits.
-    pub(crate) fn bits(&self) -> [u32; 8] {
-        let Pose { re, im, x, y } = self.pose();
-        let (from, to) = (self.shift02(), self.shift23());
-        [re, im, x, y, from.x, from.y, to.x, to.y].map(f32::to_bits)
     }
 }

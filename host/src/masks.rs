@@ -5,11 +5,19 @@ use crate::ffi;
 use crate::refusal::{refused, told};
 
 /// The DoF count of a locked mask.
+///
+/// # Errors
+///
+/// [`Refusal::BadMask`].
 pub fn dof_count(mask: u32) -> Result<usize, Refusal> {
     told(ffi::dof_count(mask))
 }
 
 /// The DoF count of a locked mask below an axis: where among the joint's own DoFs the axis' stands.
+///
+/// # Errors
+///
+/// [`Refusal::BadMask`] for the mask or the axis.
 pub fn dof_count_below(mask: u32, axis: u32) -> Result<usize, Refusal> {
     let answer = ffi::dof_count_below(mask, axis);
     refused(answer.refusal)?;
@@ -17,6 +25,10 @@ pub fn dof_count_below(mask: u32, axis: u32) -> Result<usize, Refusal> {
 }
 
 /// Is an axis of a locked mask free?
+///
+/// # Errors
+///
+/// [`Refusal::BadMask`] for the mask or the axis.
 pub fn is_free(mask: u32, axis: u32) -> Result<bool, Refusal> {
     let answer = ffi::free_axis(mask, axis);
     refused(answer.refusal)?;
@@ -24,16 +36,28 @@ pub fn is_free(mask: u32, axis: u32) -> Result<bool, Refusal> {
 }
 
 /// Writes the start of each mask of a list, a byte a mask; returned is the total of DoFs.
+///
+/// # Errors
+///
+/// [`Refusal::ShortMemory`], [`Refusal::TooMany`] for more masks than an arm has links, and [`Refusal::BadMask`].
 pub fn starts(masks: &[u8], starts: &mut [u8]) -> Result<usize, Refusal> {
     told(ffi::starts(masks, starts))
 }
 
 /// How many velocity constraints a joint's limits and motors make.
+///
+/// # Errors
+///
+/// [`Refusal::BadMask`] for any of the three.
 pub fn num_velocity_constraints(locked: u32, limit: u32, motor: u32) -> Result<usize, Refusal> {
     told(ffi::num_velocity_constraints(locked, limit, motor))
 }
 
 /// Writes the default damping of a locked mask, four bytes a DoF; returned is the DoF count. [`floats`] reads them.
+///
+/// # Errors
+///
+/// [`Refusal::ShortMemory`] and [`Refusal::BadMask`].
 pub fn default_damping(mask: u32, damping: &mut [u8]) -> Result<usize, Refusal> {
     told(ffi::default_damping(mask, damping))
 }

@@ -1,6 +1,7 @@
 //! The arm from outside: over lent memory between guards, with any argument, and through the safe type.
 
 mod calls;
+mod equality;
 mod memory;
 mod methods;
 mod outline;
@@ -11,4 +12,6 @@ mod sequences;
 #[path = "../common/size.rs"]
 mod size;
 mod soak;
+mod state;
+mod tags;
 mod wild;

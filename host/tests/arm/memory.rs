@@ -78,6 +78,11 @@ impl Place {
 
 // ---- An arm by its bits, counted or not
 
+/// The same floats, bit for bit.
+pub fn same(a: &[f32], b: &[f32]) -> bool {
+    a.iter().map(|x| x.to_bits()).eq(b.iter().map(|x| x.to_bits()))
+}
+
 /// The bits of every field of an arm.
 pub fn bits(arm: &Arm) -> Vec<u32> {
     let mut bits = vec![arm.link_count as u32, (arm.link_count >> 32) as u32];

@@ -1,14 +1,22 @@
 //! Every method of the safe type with any argument: none panics, and what is refused changes nothing.
 
-use crate::memory::bits;
+use crate::memory::{bits, same};
 use crate::random::Random;
 use crate::size::calls;
 use crate::wild::Wild;
-use giellavor::{Arm, Force, Lent, Limits, NewCoupling, NewLink, Role, RowName, Split, Spring};
+use giellavor::{Arm, Force, Lent, Limits, NewCoupling, NewLink, Role, RowName, Split, Spring, Tag, Which};
 
 /// Any number: a small one mostly.
 fn number(wild: &mut Wild) -> u32 {
     wild.random.number(18)
+}
+
+/// A link by any number, or by any tag.
+fn which(wild: &mut Wild) -> Which {
+    match wild.random.below(2) {
+        0 => number(wild).into(),
+        _ => Tag(wild.random.number(40)).into(),
+    }
 }
 
 fn floats(wild: &mut Wild) -> Vec<f32> {
@@ -18,13 +26,13 @@ fn floats(wild: &mut Wild) -> Vec<f32> {
 
 /// One method that may change the arm; says whether it was done.
 fn edit(wild: &mut Wild, arm: &mut Arm) -> bool {
-    let (link, axis, x) = (number(wild), wild.random.number(4), wild.float());
+    let (link, axis, x) = (which(wild), wild.random.number(4), wild.float());
     match wild.random.below(12) {
         0 | 1 => {
             let mask = wild.random.number(9);
             let (limit, motor) = (wild.random.number(9), wild.random.number(9));
             let (frame1, frame2, centre) = (wild.pose(), wild.pose(), wild.point());
-            let tag = wild.random.number(40);
+            let tag = Tag(wild.random.number(40));
             arm.add_link(NewLink {
                 tag,
                 parent: link,
@@ -39,7 +47,7 @@ fn edit(wild: &mut Wild, arm: &mut Arm) -> bool {
         }
         2 => arm.add_link(NewLink::free(wild.random.number(40), 0)).is_ok(),
         3 => {
-            let (link2, axis2, offset) = (number(wild), wild.random.number(4), wild.float());
+            let (link2, axis2, offset) = (which(wild), wild.random.number(4), wild.float());
             arm.add_coupling(NewCoupling {
                 link1: link,
                 axis1: axis,
@@ -72,11 +80,11 @@ fn edit(wild: &mut Wild, arm: &mut Arm) -> bool {
 
 /// One method that reads the arm; says whether it was answered.
 fn read(wild: &mut Wild, arm: &Arm) -> bool {
-    let (link, axis, x) = (number(wild), wild.random.number(4), wild.float());
+    let (link, axis, x) = (which(wild), wild.random.number(4), wild.float());
     let split = if wild.random.below(2) == 0 {
-        Split::Delete(link)
+        Split::delete(link)
     } else {
-        Split::Cut(link)
+        Split::cut(link)
     };
     let role = if wild.random.below(2) == 0 {
         Role::Velocities
@@ -91,10 +99,12 @@ fn read(wild: &mut Wild, arm: &Arm) -> bool {
     };
     match wild.random.below(14) {
         0 => arm.split_map(split).is_ok(),
-        1 => arm.part(split, number(wild)).is_ok(),
+        1 => arm.part(split, number(wild) as usize).is_ok(),
         2 => arm.parts(split).is_ok(),
         3 => arm.link(link).is_ok_and(|link| link.rows().count() == 3),
-        4 => arm.tagged(link).is_ok_and(|found| found.tag() == link),
+        4 => arm
+            .link(link)
+            .is_ok_and(|found| link == found.tag().into() || link == found.number().into()),
         5 => arm.link_start(link).is_ok(),
         6 => arm.row(RowName::ALL[wild.random.below(5)]).len() == arm.dof_count(),
         7 => arm.row_view(role, link, &mass, &j).is_ok(),
@@ -141,13 +151,7 @@ fn no_method_panics() {
         let before = arm.clone();
         let done = edit(&mut wild, &mut arm);
         assert!(done || bits(arm.state()) == bits(before.state()));
-        assert!(
-            done || arm
-                .tables()
-                .iter()
-                .map(|x| x.to_bits())
-                .eq(before.tables().iter().map(|x| x.to_bits()))
-        );
+        assert!(done || arm == before && same(arm.tables(), before.tables()));
         if turn % 300 == 299 {
             assert!(!format!("{arm:?}").is_empty());
             arm = Arm::default();

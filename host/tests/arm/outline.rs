@@ -1,6 +1,6 @@
 //! What an arm prints of itself, and what is read of a link by its number and by its tag.
 
-use giellavor::{Arm, NewLink, Pose, Refusal, axis};
+use giellavor::{Arm, NewLink, Pose, Refusal, Tag, axis};
 
 fn arm() -> Arm {
     let mut arm = Arm::new();
@@ -37,11 +37,11 @@ fn the_outline_shows_the_tree() {
 #[test]
 fn a_link_is_read_by_number_or_by_tag() {
     let arm = arm();
-    let (by_number, by_tag) = (arm.link(2).unwrap(), arm.tagged(12).unwrap());
+    let (by_number, by_tag) = (arm.link(2).unwrap(), arm.link(Tag(12)).unwrap());
     assert_eq!(by_number.number(), by_tag.number());
     assert_eq!(by_tag.pose(), Pose::at(1.625, 0.25));
     assert_eq!(by_tag.rows().count(), 3);
     assert_eq!(arm.link(4).err(), Some(Refusal::NoSuchLink));
     assert_eq!(arm.link(u32::MAX).err(), Some(Refusal::NoSuchLink));
-    assert_eq!(arm.tagged(14).err(), Some(Refusal::NoSuchLink));
+    assert_eq!(arm.link(Tag(14)).err(), Some(Refusal::NoSuchLink));
 }

@@ -121,10 +121,10 @@ fn a_good_call_is_done() {
 
 // ---- A broken arm
 
-type Damage = fn(&mut Arm);
+pub type Damage = fn(&mut Arm);
 
 /// Ways to break an arm, with the rule that each breaks.
-const BROKEN: [(u8, Damage); 29] = [
+pub const BROKEN: [(u8, Damage); 29] = [
     (2, |arm| arm.link_count = LINKS + 1),
     (2, |arm| arm.link_count = usize::MAX),
     (2, |arm| arm.coupling_count = COUPLINGS + 1),

@@ -1,7 +1,7 @@
 //! Random sequences of calls on the safe type: after each, every pose, shift and block is, bit for bit, what the full working gives; a move touches
 //! nothing but the link and those below it; a refused call touches nothing.
 
-use crate::memory::bits;
+use crate::memory::{bits, same};
 use crate::random::Random;
 use crate::size::calls;
 use crate::wild::Wild;
@@ -68,11 +68,8 @@ fn call(wild: &mut Wild, arm: &mut Arm) -> (bool, Option<u32>) {
         ),
         15 => {
             let coupling = NewCoupling {
-                link1: link,
-                link2: link / 2,
-                axis1: axis,
                 coefficient: x,
-                ..NewCoupling::default()
+                ..NewCoupling::between(link, axis, link / 2, 0)
             };
             (arm.add_coupling(coupling).is_ok(), Some(u32::MAX))
         }
@@ -86,9 +83,9 @@ fn call(wild: &mut Wild, arm: &mut Arm) -> (bool, Option<u32>) {
 /// A split: every part is settled, the parts hold the survivors, and one of them is gone on with.
 fn part(wild: &mut Wild, arm: &mut Arm, link: u32) -> bool {
     let split = if wild.random.below(2) == 0 {
-        Split::Delete(link)
+        Split::delete(link)
     } else {
-        Split::Cut(link)
+        Split::cut(link)
     };
     let Ok((count, places)) = arm.split_map(split) else {
         return false;
@@ -97,7 +94,7 @@ fn part(wild: &mut Wild, arm: &mut Arm, link: u32) -> bool {
     assert_eq!(parts.len(), count);
     for (old, place) in arm.links().zip(&places) {
         let Some(place) = place else { continue };
-        let new = parts[usize::from(place.part)].link(place.number.into()).unwrap();
+        let new = parts[place.part].link(place.number).unwrap();
         assert_eq!(new.tag(), old.tag());
     }
     assert_eq!(
@@ -129,6 +126,10 @@ fn every_sequence_of_calls_keeps_the_picture_fresh() {
         if !was_done {
             assert_eq!(bits(arm.state()), bits(before.state()));
         }
+        // Equal arms have the same tables, and a state taken over is the arm that it was.
+        assert!(arm != before || same(arm.tables(), before.tables()), "call {turn}");
+        let taken = Arm::from_state(arm.state(), arm.tables()).unwrap();
+        assert!(taken == arm && same(taken.tables(), arm.tables()), "call {turn}");
         if let Some(top) = moved {
             for link in before.links().filter(|link| !is_at_or_below(&arm, link.number(), top)) {
                 assert_eq!(picture(link), picture(arm.link(link.number()).unwrap()), "call {turn}");

@@ -7,7 +7,7 @@ const A: [u8; 6] = [0, 0, 1, 1, 0, 3];
 
 const GONE: Option<Place> = None;
 
-fn at(part: u8, number: u8) -> Option<Place> {
+fn at(part: usize, number: u32) -> Option<Place> {
     Some(Place { part, number })
 }
 
