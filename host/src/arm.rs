@@ -50,9 +50,8 @@ impl Arm {
     }
 
     /// The call's arm in place of the old one.
-    fn edit(&mut self, call: impl FnOnce(&mut Edited, &mut [f32])) -> Result<(), Refusal> {
-        call(&mut self.edited, &mut self.tables);
-        refused(self.edited.refusal)
+    fn edit(&mut self, call: impl FnOnce(&mut Edited, &mut [f32]) -> u8) -> Result<(), Refusal> {
+        refused(call(&mut self.edited, &mut self.tables))
     }
 
     /// Adds a link behind the last, and returns its number. A first link is the root: its parent is 0, its locked mask 7 or 0.

@@ -11,6 +11,7 @@
 )]
 
 pub mod abi;
+mod archive;
 mod arm;
 mod constraint;
 pub mod ffi;

@@ -1,5 +1,5 @@
--- What crosses to C: its version, and the size of every struct, by its fields and C's rule: a field stands at the next multiple of its alignment, and a struct ends at the
--- next multiple of the largest.
+-- What crosses to C: its version, and the size of every struct by its fields and C's rule. A field stands at the next multiple of its alignment, and a
+-- struct ends at the next multiple of the largest.
 use Prim.Native.Nat.{ℕ, _+_, _-_, _*_, _/_, max}
 use mathlib.Core.List.{List, [], _∷_, map}
 use lib.ListN.{getD}

@@ -4,4 +4,7 @@ mod declarations;
 mod header;
 #[cfg(feature = "layouts")]
 mod layouts;
+#[path = "../../build/sha256.rs"]
+mod sha256;
+mod sizes;
 mod source;
