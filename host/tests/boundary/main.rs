@@ -1,5 +1,6 @@
 //! The boundary to the proved functions: what is declared in Rust and in C is what the Rattle source has, and is laid out as the Rattle side lays it out.
 
+mod another_layout;
 mod declarations;
 mod header;
 #[cfg(feature = "layouts")]
