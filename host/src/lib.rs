@@ -12,6 +12,7 @@
 )]
 
 pub mod abi;
+mod archive;
 mod arm;
 mod bits;
 mod constraint;

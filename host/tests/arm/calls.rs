@@ -83,9 +83,10 @@ impl Came {
 }
 
 /// A call that edits an arm in its place.
-fn edited(arm: &Arm, tables: usize, call: impl FnOnce(&mut Edited)) -> Came {
+fn edited(arm: &Arm, tables: usize, call: impl FnOnce(&mut Edited) -> u8) -> Came {
     let mut place = Place::of(arm);
-    call(&mut place.edited);
+    let refusal = call(&mut place.edited);
+    assert_eq!(refusal, place.edited.refusal);
     assert!(black_box(&place).is_guarded());
     Came::edited(place.edited, tables)
 }

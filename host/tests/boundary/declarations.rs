@@ -21,7 +21,7 @@ fn the_structs_are_those_of_the_source() {
 }
 
 #[test]
-fn the_sizes_are_those_of_the_source() {
+fn the_limits_are_those_of_the_source() {
     use giellavor::{BLOCK, COUPLINGS, DOFS, LINKS, TABLES};
     let declared = [
         ("LINKS", LINKS),

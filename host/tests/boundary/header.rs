@@ -1,6 +1,7 @@
-//! What `crates/exports/giellavor.h` declares is what the Rattle source has.
+//! What `include/giellavor.h` declares is what the Rattle source has.
 
-use crate::source::{exported, header_functions, header_limits, header_structs, laid_out, limits};
+use crate::source::{exported, header_functions, header_numbers, header_structs, laid_out, limits};
+use giellavor::ffi;
 
 #[test]
 fn the_functions_are_those_of_the_source() {
@@ -13,6 +14,8 @@ fn the_structs_are_those_of_the_source() {
 }
 
 #[test]
-fn the_sizes_are_those_of_the_source() {
-    assert_eq!(header_limits(), limits());
+fn the_limits_and_the_version_are_those_of_the_source() {
+    let mut numbers = limits();
+    numbers.insert("VERSION".to_string(), ffi::version() as usize);
+    assert_eq!(header_numbers(), numbers);
 }

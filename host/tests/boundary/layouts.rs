@@ -1,11 +1,13 @@
 //! Every struct of the boundary has its fields where the Rattle side has them: it makes the struct of its fields, all of them different, and Rust reads
 //! it; and C's sizes and offsets, by the header, are Rust's.
 
-use crate::source::{crates, laid_out};
+use crate::source::{include, laid_out};
 use giellavor::abi::*;
 use giellavor::{COUPLINGS, DOFS, LINKS};
+use std::env;
+use std::hint::black_box;
 use std::io::Write;
-use std::mem::{offset_of, size_of, transmute};
+use std::mem::{offset_of, size_of};
 use std::process::{Command, Stdio};
 
 unsafe extern "C" {
@@ -312,33 +314,34 @@ fn an_answer_made_of_its_fields_has_them_in_their_places() {
 
 const UNTOUCHED: u8 = 0xA5;
 
-/// Calls with the place of the result lent as memory, which is how a struct of more than two words comes back, and says whether all past its size is
-/// as it was.
-macro_rules! stays_within {
-    ($function:ident($($value:expr => $of:ty),*) -> $result:ty) => {{
-        let call = $function as extern "C" fn($($of),*) -> $result;
-        // SAFETY: on x86-64 the place of such a result is a first argument, and it comes back as the result.
-        let call: extern "C" fn(*mut u8, $($of),*) -> *mut u8 = unsafe { transmute(call) };
-        let mut memory = vec![UNTOUCHED; size_of::<$result>() + 256];
-        call(memory.as_mut_ptr(), $($value),*);
-        memory[size_of::<$result>()..].iter().all(|&byte| byte == UNTOUCHED)
-    }};
+/// A place for a result, and bytes behind it.
+#[repr(C)]
+struct Guarded<T> {
+    result: T,
+    behind: [u8; 256],
+}
+
+/// Puts a result over another and says whether all past its size is as it was.
+fn stays_within<T>(before: T, call: impl FnOnce() -> T) -> bool {
+    let behind = [UNTOUCHED; 256];
+    let mut place = black_box(Box::new(Guarded { result: before, behind }));
+    place.result = call();
+    black_box(place).behind == behind
 }
 
 #[test]
 fn nothing_is_written_past_the_size_of_a_result() {
-    assert!(stays_within!(giellavor_layout_link(
-        1 => u32, 2 => u8, JOINT => Joint, POINTS[0] => Point, POSES[0] => Pose, POINTS[1] => Point, POINTS[2] => Point
-    ) -> Link));
-    assert!(stays_within!(giellavor_layout_row(1.0 => f32) -> Row));
-    assert!(stays_within!(giellavor_layout_arm(
-        1 => usize, 2 => usize, LINK => Link, COUPLING => Coupling, ROW => Row
-    ) -> Arm));
-    assert!(stays_within!(giellavor_layout_edited(1 => u8, ARM => Arm) -> Edited));
-    assert!(stays_within!(giellavor_layout_row_part(1 => u8, 2 => usize, 3 => usize) -> RowPart));
-    assert!(stays_within!(giellavor_layout_constraint_row(
-        1 => u8, 1.0 => f32, 2.0 => f32, 3.0 => f32, 4.0 => f32, 5.0 => f32
-    ) -> ConstraintRow));
+    let edited = Edited { arm: ARM, refusal: 1 };
+    assert!(stays_within(LINK, made_link));
+    assert!(stays_within(ROW, || giellavor_layout_row(1.0)));
+    assert!(stays_within(ARM, || giellavor_layout_arm(1, 2, LINK, COUPLING, ROW)));
+    assert!(stays_within(edited, || giellavor_layout_edited(2, ARM)));
+    let part = giellavor_layout_row_part(1, 2, 3);
+    assert!(stays_within(part, || giellavor_layout_row_part(4, 5, 6)));
+    let row = giellavor_layout_constraint_row(1, 1.0, 2.0, 3.0, 4.0, 5.0);
+    assert!(stays_within(row, || giellavor_layout_constraint_row(
+        2, 6.0, 7.0, 8.0, 9.0, 10.0
+    )));
 }
 
 /// A struct's name, its size, and its fields with their offsets.
@@ -405,7 +408,7 @@ fn c_has_the_same_sizes_and_offsets() {
             text += &format!("_Static_assert(offsetof(Giellavor{name}, {field}) == {at}, \"{name}.{field}\");\n");
         }
     }
-    let mut compiler = Command::new("cc")
+    let mut compiler = Command::new(env::var_os("CC").unwrap_or("cc".into()))
         .args([
             "-std=c11",
             "-Wall",
@@ -416,7 +419,7 @@ fn c_has_the_same_sizes_and_offsets() {
             "c",
             "-I",
         ])
-        .arg(crates().join("exports"))
+        .arg(include())
         .arg("-")
         .stdin(Stdio::piped())
         .spawn()

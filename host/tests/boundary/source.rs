@@ -18,7 +18,7 @@ pub type Functions = BTreeMap<String, Signature>;
 pub type Structs = BTreeMap<String, Vec<String>>;
 
 /// The crates whose functions are exported.
-pub const EXPORTING: [&str; 3] = ["plugin", "exports", "exports_views"];
+pub const EXPORTING: [&str; 4] = ["plugin", "exports", "exports_views", "sizes"];
 
 pub fn host() -> &'static Path {
     Path::new(env!("CARGO_MANIFEST_DIR"))
@@ -180,17 +180,76 @@ pub fn limits() -> BTreeMap<String, usize> {
     found
 }
 
+/// The size of each struct by C's rules: a field stands at the next multiple of its alignment, and the struct ends at the next multiple of the largest.
+pub fn sizes() -> BTreeMap<String, usize> {
+    let (structs, limits) = (laid_out(), limits());
+    let size = |name: &String| (name.clone(), size_and_alignment(name, &structs, &limits).0);
+    structs.keys().map(size).collect()
+}
+
+fn size_and_alignment(of: &str, structs: &Structs, limits: &BTreeMap<String, usize>) -> (usize, usize) {
+    if let Some((item, count)) = of
+        .strip_prefix('[')
+        .and_then(|of| of.strip_suffix(']')?.split_once("; "))
+    {
+        let (size, alignment) = size_and_alignment(item, structs, limits);
+        return (size * count.parse().unwrap_or_else(|_| limits[count]), alignment);
+    }
+    match of {
+        "u8" => (1, 1),
+        "u32" | "f32" => (4, 4),
+        "usize" => (8, 8),
+        _ => {
+            let fields = structs[of].iter().map(|field| field.split_once(": ").unwrap().1);
+            let (end, largest) = fields.fold((0usize, 1usize), |(end, largest), field| {
+                let (size, alignment) = size_and_alignment(field, structs, limits);
+                (end.next_multiple_of(alignment) + size, largest.max(alignment))
+            });
+            (end.next_multiple_of(largest), largest)
+        }
+    }
+}
+
+/// All that crosses, a line for each function, struct and limit.
+pub fn crossing() -> String {
+    let functions = exported()
+        .into_iter()
+        .map(|(name, of)| format!("{name}({}) -> {}\n", of.parameters.join(", "), of.result));
+    let structs = laid_out()
+        .into_iter()
+        .map(|(name, fields)| format!("{name} {{ {} }}\n", fields.join(", ")));
+    let limits = limits().into_iter().map(|(name, value)| format!("{name} = {value}\n"));
+    functions.chain(structs).chain(limits).collect()
+}
+
 // ---- The Rust declarations
 
-/// The lists of `exported!`: the calls, and what is timed beside them. An arm that crosses by value is lent there, or edited in its place.
+/// The calls, and what is timed beside them. In the lists of `exported!` an arm that crosses by value is lent, or edited in its place.
 pub fn declared() -> [Functions; 2] {
     let text = code(&host().join("src/ffi.rs"));
-    let lists = after(&text, "exported! {").map(|(_, list)| {
-        let (list, _) = list.split_once('}').unwrap();
-        let items = list.split(';').map(str::trim).filter(|item| !item.is_empty());
-        items.map(declared_function).collect()
-    });
-    lists.collect::<Vec<_>>().try_into().unwrap()
+    let (calls, timed) = text.split_once("mod timed").unwrap();
+    let mut calls = declared_in(calls);
+    calls.extend(asked(&text));
+    [calls, declared_in(timed)]
+}
+
+fn declared_in(text: &str) -> Functions {
+    let lists = after(text, "exported! {").map(|(_, list)| list.split_once('}').unwrap().0);
+    let items = lists.flat_map(|list| list.split(';')).map(str::trim);
+    items.filter(|item| !item.is_empty()).map(declared_function).collect()
+}
+
+/// What is asked of an archive before its calls are run: numbers alone.
+fn asked(text: &str) -> Functions {
+    after(text, "pub safe fn ")
+        .map(|(before, text)| {
+            let (name, parameters, result) = signature(text);
+            let name = format!("giellavor_{name}");
+            assert!(before.ends_with(&format!("#[link_name = \"{name}\"] ")));
+            let parameters = parameters.iter().flat_map(|(name, of)| as_words(name, of)).collect();
+            (name, Signature { parameters, result })
+        })
+        .collect()
 }
 
 fn declared_function(item: &str) -> (String, Signature) {
@@ -204,6 +263,12 @@ fn declared_function(item: &str) -> (String, Signature) {
         .flat_map(|(name, of)| as_words(name, if of == "&Arm" { "Arm" } else { of }))
         .collect();
     (format!("giellavor_{name}"), Signature { parameters, result })
+}
+
+/// The names of the structs of `src/abi.rs`, in order.
+pub fn declared_order() -> Vec<String> {
+    let text = code(&host().join("src/abi.rs"));
+    structs_of(&text).map(|(_, name, _)| name).collect()
 }
 
 pub fn declared_structs() -> Structs {
@@ -224,8 +289,13 @@ pub fn declared_structs() -> Structs {
 
 // ---- The C header
 
+/// The folder that the header stands in.
+pub fn include() -> PathBuf {
+    host().join("../include")
+}
+
 fn header() -> String {
-    let text = fs::read_to_string(crates().join("exports/giellavor.h")).unwrap();
+    let text = fs::read_to_string(include().join("giellavor.h")).unwrap();
     let mut code = String::new();
     for (number, piece) in text.split("/*").enumerate() {
         code += if number == 0 {
@@ -244,8 +314,16 @@ fn header_code() -> String {
     lines.flat_map(str::split_whitespace).collect::<Vec<_>>().join(" ")
 }
 
-/// The sizes that the header defines.
-pub fn header_limits() -> BTreeMap<String, usize> {
+/// The names of the header's structs, in order.
+pub fn header_order() -> Vec<String> {
+    let text = header_code();
+    after(&text, "typedef struct Giellavor")
+        .map(|(_, text)| text.split(' ').next().unwrap().to_string())
+        .collect()
+}
+
+/// The sizes that the header defines, and its version.
+pub fn header_numbers() -> BTreeMap<String, usize> {
     header()
         .lines()
         .filter_map(|line| line.strip_prefix("#define GIELLAVOR_")?.split_once(' '))
@@ -302,7 +380,11 @@ pub fn header_functions() -> Functions {
         let (name, rest) = rest.split_once('(').unwrap();
         let (parameters, _) = rest.split_once(");").unwrap();
         let result = before.rsplit([';', '}', '{']).next().unwrap().trim();
-        let parameters = parameters.split(',').map(declaration).collect();
+        let parameters = parameters
+            .split(',')
+            .filter(|&of| of != "void")
+            .map(declaration)
+            .collect();
         let signature = Signature {
             parameters,
             result: as_rust(result),

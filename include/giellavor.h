@@ -1,9 +1,19 @@
-/* The exported functions of Giellavor, for C on x86-64. Link target/staticlib/libplugin.a, libexports.a and libexports_views.a
- * (`rt staticlib NAME`).
+/* The exported functions of Giellavor, for C on x86-64 Linux. Link libgiellavor.a.
  *
- * A slice is a pointer and a count. Any value of any argument gets an answer; all that is asked of a caller is that a pointer points to as
- * many items as its count says. A refusal has a number from 1 to 12, and then nothing that was lent has changed: of an answer it is the field
- * `refusal`, 0 for none; a function that returns an `int32_t` gives it below zero, and a count otherwise. */
+ * Any value of a number, a float or a struct gets an answer, and nothing that is handed in goes out of bounds. All that is asked of a caller:
+ *
+ *   - A slice is a pointer and a count of items: `const float *mass, size_t mass_len`. The pointer is aligned for its type, and all its items are
+ *     memory that stays where it is during the call and that holds values.
+ *   - A pointer may be NULL where its count is 0, and there alone. It is then a slice of no items, like any other pointer with count 0: refused by 1
+ *     where the call needs an item, and never followed.
+ *   - A slice that is written overlaps no other slice of the same call. Slices that are only read may be one and the same.
+ *   - No other thread writes a slice during the call, nor reads one that is written.
+ *
+ * A call that is refused has changed nothing that was lent. A refusal is a number from 1 to 12, the lowest that applies, and 0 is none. Where to find it:
+ *
+ *   - of a struct that is returned, it is the field `refusal`; the rest is then zeros, and an arm the one that came;
+ *   - of a `uint8_t` that is returned, it is that number;
+ *   - of an `int32_t` that is returned, it is minus that number; 0 and above are a count. */
 #ifndef GIELLAVOR_H
 #define GIELLAVOR_H
 
@@ -13,6 +23,16 @@
 #ifdef __cplusplus
 extern "C" {
 #endif
+
+/* ---- What archive this is the header of */
+
+#define GIELLAVOR_VERSION 1
+
+/* The version of the archive. */
+uint32_t giellavor_version(void);
+
+/* The size in bytes of a struct in the archive, by its place in this header, from 0; past the last it is 0. */
+uint32_t giellavor_size(uint32_t place);
 
 /* ---- How large an arm may be */
 
@@ -235,7 +255,7 @@ uint8_t giellavor_solve(size_t n, const float *matrix, size_t matrix_len, const 
 
 /* ---- Making an arm */
 
-/* An arm of no links; its tables hold +0. Refused: 1. */
+/* An arm of no links; its tables hold +0. Refused: 1, with an arm of no links beside it. */
 GiellavorEdited giellavor_empty(float *tables, size_t tables_len);
 
 /* A link is added behind the last. Refused: 1 to 5, 7 to 9, 12. */
@@ -307,7 +327,7 @@ GiellavorCounted giellavor_branch(const uint8_t *parents, size_t parents_len, ui
 
 /* ---- Counts */
 
-/* The start of a link. Refused: 2 to 5, 7, 9. */
+/* The start of a link: how many DoFs stand before its own. Refused: 2 to 5, 7, 9. */
 GiellavorCount giellavor_link_start(GiellavorArm arm, uint32_t link);
 
 /* The DoF count of an arm. Refused: 2 to 5, 7, 9. */
@@ -318,7 +338,8 @@ GiellavorCount giellavor_arm_dofs(GiellavorArm arm);
 /* The spring of an axis, locked or not. Refused: 2 to 5, 7, 9. */
 GiellavorSpringAnswer giellavor_spring(GiellavorArm arm, uint32_t link, uint32_t axis);
 
-/* The accelerations of a link's joint, put on their axes. Refused: 1 to 5, 7, 9. */
+/* The accelerations of a link's joint, put on their axes; +0 on a locked one. `accelerations` begins with the link's own entries, one for each free axis:
+ * it is a row from the link's start on. Refused: 1 to 5, 7, 9. */
 GiellavorAxesAnswer giellavor_jacobian_mul_coordinates(GiellavorArm arm, uint32_t link, const float *accelerations, size_t accelerations_len);
 
 /* ---- The tree */
