@@ -1,14 +1,13 @@
 //! Limit rows, and `fill_jacobians`: of the last link of a chain.
 
 use crate::arms::{Ours, Plain, chain, mass, plain_of, same};
+use crate::asked::{Asked, FORCE, LIMITS};
 use crate::calls::SIZES;
 use crate::table::{Table, Times};
-use crate::asked::{Asked, FORCE, LIMITS};
 use crate::text;
 use giellavor::{Force, Limits, axis, ffi};
 use plain::rows::{Limit, Vectors};
 use std::hint::black_box;
-
 
 /// A chain on both sides, its last link and its mass matrix.
 struct Given {

@@ -1,9 +1,22 @@
 //! Whether the archive that is linked is the one that this crate declares: its version and the size of every struct that crosses, asked once.
+#![allow(unsafe_code)]
 
 use crate::abi::*;
-use crate::ffi;
 use crate::limits::{COUPLINGS, DOFS, LINKS};
 use std::sync::atomic::{AtomicU8, Ordering};
+
+// SAFETY: numbers alone cross, and every archive that has these names has them so: they are asked before anything else of it is believed.
+unsafe extern "C" {
+    /// The version of what crosses, as the archive has it.
+    #[must_use]
+    #[link_name = "giellavor_version"]
+    pub safe fn version() -> u32;
+
+    /// The size in bytes of a struct, as the archive has it, by its place in [`abi`](crate::abi), from 0; past the last it is 0.
+    #[must_use]
+    #[link_name = "giellavor_size"]
+    pub safe fn size(place: u32) -> u32;
+}
 
 /// The version of what crosses: that of `crates/sizes`.
 const VERSION: u32 = 1;
@@ -53,7 +66,7 @@ pub(crate) fn fits() -> bool {
 #[cold]
 fn ask() -> bool {
     let mut sizes = SIZES.into_iter().chain([0]).zip(0..);
-    let fits = ffi::version() == VERSION && sizes.all(|(size, place)| ffi::size(place) as usize == size);
+    let fits = version() == VERSION && sizes.all(|(known, place)| size(place) as usize == known);
     KNOWN.store(if fits { FITS } else { DIFFERS }, Ordering::Relaxed);
     fits
 }

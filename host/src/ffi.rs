@@ -13,6 +13,8 @@
 use crate::abi::*;
 use crate::archive::{self, Answer};
 
+pub use crate::archive::{size, version};
+
 // An object file of the archives is of this kind alone. Clippy and rustdoc link nothing.
 #[cfg(not(any(
     all(target_arch = "x86_64", target_os = "linux", target_pointer_width = "64"),
@@ -83,19 +85,6 @@ macro_rules! exported {
             fn exported($($crosses)*) -> $result;
         }
     };
-}
-
-// SAFETY: numbers alone cross, and every archive that has these names has them so: they are asked before anything else of it is believed.
-unsafe extern "C" {
-    /// The version of what crosses, as the archive has it.
-    #[must_use]
-    #[link_name = "giellavor_version"]
-    pub safe fn version() -> u32;
-
-    /// The size in bytes of a struct, as the archive has it, by its place in [`abi`](crate::abi), from 0; past the last it is 0.
-    #[must_use]
-    #[link_name = "giellavor_size"]
-    pub safe fn size(place: u32) -> u32;
 }
 
 // ---- Splits and counts over bare lists

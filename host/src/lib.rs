@@ -16,7 +16,6 @@ mod archive;
 mod arm;
 mod bits;
 mod constraint;
-#[allow(missing_docs)]
 pub mod ffi;
 mod given;
 mod limits;

@@ -21,6 +21,13 @@ fn no(refusal: Refusal) -> No {
     No::Refused(refusal.number())
 }
 
+/// A number of an arm's link or part.
+fn byte(number: impl TryInto<u8>) -> Answer<u8> {
+    number
+        .try_into()
+        .map_err(|_| No::Wrong("told a number that no link or part has"))
+}
+
 /// The arm's tables are always lent in full.
 fn in_full(lent: usize, call: impl FnOnce() -> Result<(), Refusal>) -> Answer {
     if lent < TABLES {
@@ -159,7 +166,7 @@ impl Engine for Owned {
     fn take_part(&mut self, lent: usize, how: Split, link: u32, part: u32) -> Answer {
         let split = self.split_of(how, link);
         in_full(lent, || {
-            self.arm = self.arm.part(split, part)?;
+            self.arm = self.arm.part(split, part as usize)?;
             Ok(())
         })
     }
@@ -173,7 +180,7 @@ impl Engine for Owned {
         let links = self.arm.kinematic_branch(self.which(link)).map_err(no)?;
         let places = branch.get_mut(..links.len()).ok_or(No::Unasked)?;
         for (place, &link) in places.iter_mut().zip(&links) {
-            *place = u8::try_from(link).map_err(|_| No::Wrong("a link's number that is no byte"))?;
+            *place = byte(link)?;
         }
         Ok(links.len())
     }
@@ -203,7 +210,10 @@ impl Engine for Owned {
         let (parts, places) = self.arm.split_map(self.split_of(how, link)).map_err(no)?;
         let map = map.get_mut(..2 * places.len()).ok_or(No::Unasked)?;
         for (to, place) in map.chunks_exact_mut(2).zip(places) {
-            to.copy_from_slice(&place.map_or([255, 255], |place| [place.part, place.number]));
+            to.copy_from_slice(&match place {
+                Some(place) => [byte(place.part)?, byte(place.number)?],
+                None => [255, 255],
+            });
         }
         Ok(parts)
     }
