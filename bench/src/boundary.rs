@@ -28,11 +28,11 @@ pub fn time() {
     };
     let last = LINKS as u32 - 1;
     line("row write", &mut |edited, _| {
-        ffi::write_velocity(edited, last, axis::ANGLE, 0.5)
+        let _ = ffi::write_velocity(edited, last, axis::ANGLE, 0.5);
     });
     for (name, link) in [("move of the last link", last), ("move of the first link", 0)] {
         line(name, &mut |edited, tables| {
-            ffi::move_coordinate(edited, tables, link, axis::X, 0.5)
+            let _ = ffi::move_coordinate(edited, tables, link, axis::X, 0.5);
         });
     }
 }

@@ -17,7 +17,7 @@ fn timed(call: Call, links: usize) -> Times {
     let [ours, by_value, rust] = least([
         &mut || {
             edited.arm.link_count = links;
-            black_box(call).ours(black_box(&mut edited), black_box(&mut tables));
+            let _ = black_box(black_box(call).ours(black_box(&mut edited), black_box(&mut tables)));
         },
         &mut || {
             copied.0.link_count = links;

@@ -5,7 +5,7 @@ use crate::asked::{Asked, FORCE, LIMITS};
 use crate::calls::SIZES;
 use crate::table::{Table, Times};
 use crate::text;
-use giellavor::{Force, Limits, axis, ffi};
+use giellavor::{axis, ffi};
 use plain::rows::{Limit, Vectors};
 use std::hint::black_box;
 
