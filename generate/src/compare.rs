@@ -1,72 +1,140 @@
-//! Made-up scripts, answered by another program and by this one.
+//! Made-up scripts, answered by another program and by the plain reading.
 
 use crate::wild::{self, Coverage, Script};
 use script::{Session, answers_to};
 use std::io::{self, Read, Write};
+use std::ops::Range;
 use std::process::{Command, ExitStatus, Stdio};
+use std::sync::Mutex;
+use std::sync::atomic::{AtomicU64, Ordering};
 
 /// Scripts that one run of the program is given.
 const BATCH: u64 = 50;
 /// Differences that are told in full.
 const MOST_TOLD: usize = 5;
 
-/// Compare `count` scripts of a seed, and tell what differs; whether nothing does.
-pub fn compare(program: &str, seed: u64, count: u64, mut told: impl Write) -> io::Result<bool> {
-    let mut coverage = Coverage::default();
-    let mut failed = 0;
-    let mut first = 0;
-    while first < count {
-        let next = count.min(first + BATCH);
-        let scripts: Vec<Script> = (first..next).map(|index| wild::script(seed, index)).collect();
-        for script in &scripts {
-            coverage.add(&script.coverage);
-        }
-        let mut text: Vec<u8> = scripts.iter().flat_map(|script| script.text.iter().copied()).collect();
-        // The last line of an input may go without its newline.
-        if first / BATCH % 2 == 1 {
-            text.pop();
-        }
-        let answers: Vec<u8> = scripts
-            .iter()
-            .flat_map(|script| script.answers.iter().copied())
+/// Which scripts a program is given.
+pub struct Task<'a> {
+    pub program: &'a str,
+    pub seed: u64,
+    pub numbers: Range<u64>,
+    /// No broken arm and no short memory is handed in.
+    pub sound: bool,
+    pub jobs: usize,
+}
+
+/// What came of the scripts so far.
+struct Outcome<W> {
+    coverage: Coverage,
+    failed: usize,
+    told: W,
+}
+
+/// Compare scripts, and tell what differs; whether nothing does.
+///
+/// # Errors
+/// The program can't be run, or what is told can't be written.
+pub fn compare(task: &Task, told: impl Write + Send) -> io::Result<bool> {
+    let next = AtomicU64::new(task.numbers.start);
+    let outcome = Mutex::new(Outcome {
+        coverage: Coverage::default(),
+        failed: 0,
+        told,
+    });
+    std::thread::scope(|scope| {
+        let jobs: Vec<_> = (0..task.jobs.max(1))
+            .map(|_| scope.spawn(|| run_batches(task, &next, &outcome)))
             .collect();
-        let (theirs, status) = run(program, &text)?;
-        if theirs != answers || !status.success() {
-            let mut found = 0;
-            for (index, script) in (first..).zip(&scripts) {
-                let (theirs, status) = run(program, &script.text)?;
-                if theirs != script.answers || !status.success() {
-                    found += 1;
-                    if failed + found <= MOST_TOLD {
-                        writeln!(told, "script {index} of seed {seed} ({status})")?;
-                        tell(program, &script.text, &mut told)?;
-                    }
-                }
-            }
-            if found == 0 {
-                found = 1;
-                writeln!(
-                    told,
-                    "scripts {first} to {} of seed {seed} in one run only ({status})",
-                    next - 1
-                )?;
-                tell(program, &text, &mut told)?;
-            }
-            failed += found;
-        }
-        first = next;
-    }
+        jobs.into_iter().try_for_each(|job| job.join().expect("no panic"))
+    })?;
+    let Outcome {
+        coverage,
+        failed,
+        mut told,
+    } = outcome.into_inner().expect("no panic");
+    let count = (task.numbers.end - task.numbers.start) as usize;
     writeln!(told, "{coverage}")?;
-    writeln!(told, "{} passed, {failed} failed", count as usize - failed)?;
+    writeln!(told, "{} passed, {failed} failed", count - failed)?;
+    told.flush()?;
     Ok(failed == 0)
 }
 
+fn run_batches<W: Write>(task: &Task, next: &AtomicU64, outcome: &Mutex<Outcome<W>>) -> io::Result<()> {
+    loop {
+        let first = next.fetch_add(BATCH, Ordering::Relaxed);
+        if first >= task.numbers.end {
+            return Ok(());
+        }
+        run_batch(task, first..task.numbers.end.min(first + BATCH), outcome)?;
+    }
+}
+
+fn run_batch<W: Write>(task: &Task, numbers: Range<u64>, outcome: &Mutex<Outcome<W>>) -> io::Result<()> {
+    let scripts: Vec<(u64, Script)> = numbers
+        .clone()
+        .map(|number| (number, wild::script(task.seed, number, task.sound)))
+        .collect();
+    let joined = |part: fn(&Script) -> &Vec<u8>| -> Vec<u8> {
+        scripts
+            .iter()
+            .flat_map(|(_, script)| part(script).iter().copied())
+            .collect()
+    };
+    let (mut text, answers) = (joined(|script| &script.text), joined(|script| &script.answers));
+    // The last line of an input may go without its newline.
+    if numbers.start / BATCH % 2 == 1 {
+        text.pop();
+    }
+    let (theirs, status) = run(task.program, &text)?;
+    let same = theirs == answers && status.success();
+    let mut outcome = outcome.lock().expect("no panic");
+    for (_, script) in &scripts {
+        outcome.coverage.add(&script.coverage);
+    }
+    match same {
+        true => Ok(()),
+        false => tell_batch(task, &scripts, &text, &mut outcome),
+    }
+}
+
+/// Which scripts of a batch differ, each played by itself.
+fn tell_batch<W: Write>(
+    task: &Task,
+    scripts: &[(u64, Script)],
+    text: &[u8],
+    outcome: &mut Outcome<W>,
+) -> io::Result<()> {
+    let (seed, mut found) = (task.seed, 0);
+    for (number, script) in scripts {
+        let (theirs, status) = run(task.program, &script.text)?;
+        if theirs != script.answers || !status.success() {
+            found += 1;
+            if outcome.failed + found <= MOST_TOLD {
+                writeln!(outcome.told, "script {number} of seed {seed} ({status})")?;
+                tell(task.program, &script.text, &mut outcome.told)?;
+            }
+        }
+    }
+    if found == 0 {
+        found = 1;
+        let (first, last) = (scripts[0].0, scripts[scripts.len() - 1].0);
+        writeln!(outcome.told, "scripts {first} to {last} of seed {seed} in one run only")?;
+        tell(task.program, text, &mut outcome.told)?;
+    }
+    outcome.failed += found;
+    Ok(())
+}
+
 /// The answers of a program to a script, and how it ended.
-fn run(program: &str, script: &[u8]) -> io::Result<(Vec<u8>, ExitStatus)> {
+///
+/// # Errors
+/// The program can't be run.
+pub fn run(program: &str, script: &[u8]) -> io::Result<(Vec<u8>, ExitStatus)> {
     let mut child = Command::new(program)
         .stdin(Stdio::piped())
         .stdout(Stdio::piped())
-        .spawn()?;
+        .spawn()
+        .map_err(|error| io::Error::new(error.kind(), format!("{program}: {error}")))?;
     let mut input = child.stdin.take().expect("piped");
     let mut output = child.stdout.take().expect("piped");
     let mut answers = Vec::new();
@@ -77,7 +145,6 @@ fn run(program: &str, script: &[u8]) -> io::Result<(Vec<u8>, ExitStatus)> {
     })?;
     Ok((answers, child.wait()?))
 }
-
 /// The answer of this program to each line.
 fn answers_by_line(script: &[&[u8]]) -> Vec<Vec<u8>> {
     let mut session = Session::new(plain::Engine::default());

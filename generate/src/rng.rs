@@ -1,5 +1,6 @@
 //! Numbers by chance, the same for the same seed.
 
+#[derive(Clone, Debug)]
 pub struct Rng(u64);
 
 impl Rng {
@@ -33,9 +34,21 @@ impl Rng {
         least + self.below(most - least + 1)
     }
 
+    /// Below `small` mostly, and any number else.
+    pub fn number(&mut self, small: usize) -> u32 {
+        match self.below(4) {
+            0 => self.bits(),
+            _ => self.below(small) as u32,
+        }
+    }
+
     /// True so many times in a thousand.
     pub fn chance(&mut self, in_thousand: usize) -> bool {
         self.below(1000) < in_thousand
+    }
+
+    pub fn one_in(&mut self, count: usize) -> bool {
+        self.below(count) == 0
     }
 
     pub fn pick<T: Copy>(&mut self, choices: &[T]) -> T {
@@ -58,5 +71,9 @@ impl Rng {
     /// Between minus one and one.
     pub fn signed(&mut self) -> f32 {
         self.bits() as i32 as f32 / -(i32::MIN as f32)
+    }
+
+    pub fn sign(&mut self) -> f32 {
+        self.pick(&[1.0, -1.0])
     }
 }

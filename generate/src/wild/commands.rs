@@ -1,9 +1,12 @@
 //! One line of each command, with arguments that the arm accepts unless the author's nature has it otherwise.
 
 use super::author::Author;
-use super::floats;
-use script::limits::LENT;
-use script::limits::{DOFS, LINKS, TABLES};
+use crate::floats;
+use crate::masses;
+use crate::spelling::decimal;
+use plain::limits::MOST_ANGLE;
+use script::limits::{DOFS, LENT, LINKS, TABLES};
+use script::{Command, Engine, Role, RootType, RowName, Split};
 
 pub type Write = fn(&mut Author);
 
@@ -42,11 +45,14 @@ pub const COMMANDS: [(usize, Write); 31] = [
     (40, Author::write_check),
 ];
 
+/// What lends everything in full again.
+const LENT_IN_FULL: u32 = u32::MAX;
+
 impl Author {
     /// A command by its weight.
     pub fn write_any(&mut self) {
         let weights = COMMANDS.map(|(weight, _)| weight);
-        let (_, write) = COMMANDS[self.rng.weighted(&weights)];
+        let (_, write) = COMMANDS[self.hand.rng.weighted(&weights)];
         write(self);
     }
 
@@ -63,248 +69,224 @@ impl Author {
             Author::write_part,
             Author::write_filljac,
         ];
-        self.rng.pick(&MOVING)(self);
+        self.hand.rng.pick(&MOVING)(self);
     }
 
     pub fn write_link(&mut self) {
-        let first = self.links() == 0;
-        let parent = match self.links() {
-            0 => 0,
-            count => match self.rng.below(4) {
-                0 | 1 => count as u32 - 1,
-                _ => self.rng.below(count) as u32,
-            },
-        };
-        let parent = if self.faulty() { self.odd_number() } else { parent };
-        let locked = if first { self.root_mask() } else { self.mask() };
-        let line = format!(
-            "link {} {} {locked} {} {} {} {} {} {}",
-            self.tag(),
-            self.write_number(parent),
-            self.mask(),
-            self.mask(),
-            self.pose(),
-            self.pose(),
-            self.float(),
-            self.float(),
-        );
-        self.command(&line);
+        let shape = self.shape();
+        let new = self.hand.new_link(&shape);
+        self.command(Command::Link(new));
     }
 
     pub fn write_row(&mut self) {
-        let row = self.rng.pick(&["vel", "damp", "arm", "fric", "acc"]);
-        let (_, at) = self.free_axis();
-        // A little friction more often than not is a real one.
-        let value = if row == "fric" && !self.rng.chance(200) {
-            self.positive()
-        } else {
-            self.float()
+        let (_, row) = self.hand.rng.pick(&RowName::WORDS);
+        let [link, axis] = self.free_axis();
+        // Friction is mostly a real one.
+        let value = match row {
+            RowName::Frictions if !self.hand.rng.chance(200) => self.hand.positive(),
+            _ => self.hand.float(),
         };
-        self.command(&format!("row {row} {at} {value}"));
+        self.command(Command::Row { row, link, axis, value });
     }
 
     pub fn write_coord(&mut self) {
-        let (axis, at) = self.free_axis();
-        let value = self.coordinate(axis);
-        self.command(&format!("coord {at} {value}"));
+        let [link, axis] = self.free_axis();
+        let value = self.hand.coordinate(axis);
+        self.command(Command::Coord { link, axis, value });
     }
 
     pub fn write_frames(&mut self) {
-        let line = format!("frames {} {} {}", self.link(), self.pose(), self.pose());
-        self.command(&line);
+        let link = self.link();
+        let [frame1, frame2] = [self.hand.pose(), self.hand.pose()];
+        self.command(Command::Frames { link, frame1, frame2 });
     }
 
     pub fn write_com(&mut self) {
-        let line = format!("com {} {} {}", self.link(), self.float(), self.float());
-        self.command(&line);
+        let link = self.link();
+        let com = self.hand.point();
+        self.command(Command::Com { link, com });
     }
 
     pub fn write_spring(&mut self) {
-        let line = format!(
-            "spring {} {} {} {}",
-            self.link(),
-            self.axis(),
-            self.positive(),
-            self.float()
-        );
-        self.command(&line);
+        let shape = self.shape();
+        let command = Command::Spring {
+            link: self.hand.link(&shape),
+            axis: self.hand.axis(&shape),
+            stiffness: self.hand.positive(),
+            rest: self.hand.float(),
+        };
+        self.command(command);
     }
 
     pub fn write_spring_of(&mut self) {
-        let line = format!("spring_of {} {}", self.link(), self.axis());
-        self.command(&line);
+        let shape = self.shape();
+        let (link, axis) = (self.hand.link(&shape), self.hand.axis(&shape));
+        self.command(Command::SpringOf { link, axis });
     }
 
     pub fn write_coupling(&mut self) {
-        let line = format!(
-            "coupling {} {} {} {} {} {}",
-            self.link(),
-            self.axis(),
-            self.link(),
-            self.axis(),
-            self.float(),
-            self.float(),
-        );
-        self.command(&line);
+        let shape = self.shape();
+        let new = self.hand.coupling(&shape);
+        self.command(Command::Coupling(new));
     }
 
     pub fn write_step(&mut self) {
-        let dt = if self.rng.chance(30) {
-            self.rng.pick(&["-1", "100", "300", "-0.5", "0", "-0", "max"]).into()
-        } else {
-            self.positive()
+        let dt = match self.hand.rng.chance(30) {
+            true => self.hand.rng.pick(&[-1.0, 100.0, 300.0, -0.5, 0.0, -0.0, f32::MAX]),
+            false => self.hand.positive(),
         };
-        self.command(&format!("step {dt}"));
+        self.command(Command::Step { dt });
     }
 
     pub fn write_root(&mut self) {
-        let line = format!("root {} {}", self.rng.pick(&["free", "fixed"]), self.pose());
-        self.command(&line);
+        let to = self.hand.rng.pick(&[RootType::Free, RootType::Fixed]);
+        let pose = self.hand.pose();
+        self.command(Command::Root { to, pose });
     }
 
     pub fn write_branch(&mut self) {
-        let line = format!("branch {}", self.link());
-        self.command(&line);
+        let link = self.link();
+        self.command(Command::Branch { link });
     }
 
     pub fn write_view(&mut self) {
-        let line = format!("view {} {}", self.rng.pick(&["vel", "acc"]), self.link());
-        self.command(&line);
+        let role = self.hand.rng.pick(&[Role::Velocities, Role::Accelerations]);
+        let link = self.link();
+        self.command(Command::View { role, link });
     }
 
     pub fn write_jmul(&mut self) {
-        let link = self.some_link();
-        let dofs = link.map_or(0, |link| self.session.engine.arm.links[link].joint.dofs());
-        let count = match self.rng.below(12) {
+        let shape = self.shape();
+        let some = self.hand.some_link(&shape);
+        let dofs = some.map_or(0, |link| shape.links[link].dofs());
+        let count = match self.hand.rng.below(12) {
             0 => dofs.saturating_sub(1),
             1 => dofs + 1,
-            2 => self.rng.below(6),
+            2 => self.hand.rng.below(6),
             _ => dofs,
         };
-        let link = match link {
-            Some(link) if !self.faulty() => link as u32,
-            _ => self.odd_number(),
+        let link = match some {
+            Some(link) if !self.hand.faulty() => link as u32,
+            _ => self.hand.odd_number(shape.links.len()),
         };
-        let mut line = format!("jmul {}{}", self.write_number(link), self.floats(count));
-        if self.rng.chance(100) {
-            line += self.rng.pick(&[" nan", " inf", " -0"]);
+        let mut accelerations = self.hand.floats(count);
+        if self.hand.rng.chance(100) {
+            accelerations.push(self.hand.rng.pick(&[f32::NAN, f32::INFINITY, -0.0]));
         }
-        self.command(&line);
+        self.command(Command::Jmul { link, accelerations });
     }
 
     pub fn write_masks(&mut self) {
-        let line = format!("masks {} {} {}", self.mask(), self.mask(), self.mask());
-        self.command(&line);
+        let [locked, limit, motor] = [0; 3].map(|_| self.hand.mask());
+        self.command(Command::Masks { locked, limit, motor });
     }
 
     pub fn write_starts(&mut self) {
-        let count = match self.rng.below(10) {
-            0 => self.rng.pick(&[0, 15, 16, 16, 17, 18, 40]),
-            _ => self.rng.below(LINKS + 1),
+        let count = match self.hand.rng.below(10) {
+            0 => self.hand.rng.pick(&[0, 15, 16, 16, 17, 18, 40]),
+            _ => self.hand.rng.below(LINKS + 1),
         };
-        let masks: String = (0..count).map(|_| format!(" {}", self.mask())).collect();
-        self.command(&format!("starts{masks}"));
+        let masks = (0..count).map(|_| self.hand.mask()).collect();
+        self.command(Command::Starts { masks });
     }
 
     pub fn write_rot(&mut self) {
-        let angle = match self.rng.below(8) {
-            0 => floats::angle_border(&mut self.rng),
-            1 => floats::odd(&mut self.rng),
-            2 => floats::decimal(&mut self.rng),
-            _ => floats::angle(&mut self.rng),
+        let rng = &mut self.hand.rng;
+        let angle = match rng.below(8) {
+            0 => floats::angle_border(rng),
+            1 => floats::odd(rng),
+            2 => {
+                let decimal = decimal(rng);
+                return self.line(&format!("rot {decimal}"));
+            }
+            _ => floats::angle(rng, MOST_ANGLE),
         };
-        self.command(&format!("rot {angle}"));
+        self.command(Command::Rot { angle });
+    }
+
+    fn some_split(&mut self) -> (Split, u32) {
+        let how = self.hand.rng.pick(&[Split::Delete, Split::Cut]);
+        (how, self.link())
     }
 
     pub fn write_split(&mut self) {
-        let line = format!("split {} {}", self.rng.pick(&["delete", "cut"]), self.link());
-        self.command(&line);
+        let (how, link) = self.some_split();
+        self.command(Command::Split { how, link });
     }
 
     pub fn write_part(&mut self) {
-        let part = match self.rng.below(10) {
-            0 => self.odd_number(),
+        let links = self.links();
+        let part = match self.hand.rng.below(10) {
+            0 => self.hand.odd_number(links),
             1..=3 => 1,
-            4 => self.rng.below(4) as u32,
+            4 => self.hand.rng.below(4) as u32,
             _ => 0,
         };
-        let line = format!("part {} {} {part}", self.rng.pick(&["delete", "cut"]), self.link());
-        self.command(&line);
+        let (how, link) = self.some_split();
+        self.command(Command::Part { how, link, part });
     }
 
     pub fn write_full(&mut self) {
-        self.command("full");
+        self.command(Command::Full);
     }
 
     pub fn write_empty(&mut self) {
-        self.command("empty");
+        self.command(Command::Empty);
     }
 
     pub fn write_new(&mut self) {
-        self.command("new");
+        self.command(Command::New);
     }
 
     pub fn write_short(&mut self) {
         let n = self.dofs();
-        let floats = match self.rng.below(4) {
+        let floats = match self.hand.rng.below(4) {
             0 => self.around(n * n),
             1 => self.around(TABLES),
             2 => self.around(LENT),
-            _ => self.rng.pick(&[TABLES, LENT, 0, 1, 5000]) as u32,
+            _ => self.hand.rng.pick(&[TABLES, LENT, 0, 1, 5000]) as u32,
         };
-        let written = self.write_number(floats);
-        self.command(&format!("short {written}"));
-        self.run_on_short_loans("short 4294967295");
+        self.command(Command::Short { floats });
+        self.run_on_short_loans(Command::Short { floats: LENT_IN_FULL });
     }
 
     pub fn write_short_rows(&mut self) {
-        let floats = match self.rng.below(4) {
-            0 => self.rng.pick(&[0, 1, 47, 48, 49]),
-            _ => {
-                let dofs = self.dofs();
-                self.around(dofs)
-            }
+        let dofs = self.dofs();
+        let floats = match self.hand.rng.below(4) {
+            0 => self.hand.rng.pick(&[0, 1, 47, 48, 49]),
+            _ => self.around(dofs),
         };
-        self.command(&format!("short_rows {floats}"));
-        if self.rng.chance(800) {
+        self.command(Command::ShortRows { floats });
+        if self.hand.rng.chance(800) {
             self.write_view();
         }
-        if self.rng.chance(700) {
-            self.command("short_rows 48");
+        if self.hand.rng.chance(700) {
+            self.command(Command::ShortRows { floats: DOFS as u32 });
         }
     }
 
     pub fn write_short_out(&mut self) {
-        let places = match self.rng.below(5) {
-            0 => self.rng.pick(&[0, 1, 2, 16, 17, 31, 32, 33, 48]),
-            1 => {
-                let links = self.links();
-                self.around(2 * links)
-            }
+        let (links, dofs) = (self.links(), self.dofs());
+        let places = match self.hand.rng.below(5) {
+            0 => self.hand.rng.pick(&[0, 1, 2, 16, 17, 31, 32, 33, 48]),
+            1 => self.around(2 * links),
             2 => {
                 let depth = self.some_link().map_or(0, |link| self.depth(link));
                 self.around(depth)
             }
-            _ => {
-                let dofs = self.dofs();
-                self.around(dofs)
-            }
+            _ => self.around(dofs),
         };
-        self.command(&format!("short_out {places}"));
-        self.run_on_short_loans("short_out 2304");
+        self.command(Command::ShortOut { places });
+        self.run_on_short_loans(Command::ShortOut { places: TABLES as u32 });
     }
 
     fn depth(&self, link: usize) -> usize {
         let mut branch = [0; LINKS];
-        self.session
-            .engine
-            .arm
-            .kinematic_branch(link as u32, &mut branch)
-            .unwrap_or(0)
+        self.session.engine.branch(link as u32, &mut branch).unwrap_or(0)
     }
 
     /// A few calls under a loan that may be too short, then mostly the whole again.
-    fn run_on_short_loans(&mut self, restore: &str) {
+    fn run_on_short_loans(&mut self, restore: Command) {
         const USERS: [Write; 15] = [
             Author::write_branch,
             Author::write_starts,
@@ -322,89 +304,31 @@ impl Author {
             Author::write_link,
             Author::write_part,
         ];
-        for _ in 0..self.rng.below(5) {
-            self.rng.pick(&USERS)(self);
+        for _ in 0..self.hand.rng.below(5) {
+            self.hand.rng.pick(&USERS)(self);
         }
-        if self.rng.chance(30) {
+        if self.hand.rng.chance(30) {
             self.write_empty();
         }
-        if self.rng.chance(850) {
+        if self.hand.rng.chance(850) {
             self.command(restore);
         }
     }
 
-    /// A matrix of `n` by `n` floats, of any kind.
-    pub fn mass_of(&mut self, n: usize) -> String {
-        let kind = self.rng.weighted(&[30, 12, 12, 10, 8, 6, 6, 4, 5, 4]);
-        let fault_at = (self.faulty() && n > 0).then(|| self.rng.below(n * n));
-        let (zero_column, twin) = (self.rng.below(n.max(1)), self.rng.below(n.max(1)));
-        let rows_are_twins = kind == 3 && self.rng.chance(500);
-        let mut entries: Vec<String> = Vec::with_capacity(n * n);
-        for row in 0..n {
-            for column in 0..n {
-                let on_diagonal = row == column;
-                let entry: String = match kind {
-                    // Far from singular, by decimals.
-                    0 if on_diagonal => format!("{}.{}", n + 1 + self.rng.below(5), self.rng.below(10)),
-                    0 => format!("{}0.{}", self.rng.pick(&["", "-"]), self.rng.below(10)),
-                    // A diagonal.
-                    1 if on_diagonal => self.positive(),
-                    1 => "0".into(),
-                    // Any small entries: rows are exchanged.
-                    2 => self.float(),
-                    // Singular: a column of zeros, or two rows alike.
-                    3 if rows_are_twins && row > twin && row == n - 1 => entries[twin * n + column].clone(),
-                    3 if !rows_are_twins && column == zero_column => self.rng.pick(&["0", "-0"]).into(),
-                    3 => self.rng.pick(&["1", "2", "-1", "3", "0.5"]).into(),
-                    // Signs and zeros, with many pivots alike.
-                    4 => self.rng.pick(&["1", "-1", "0", "-0", "0", "2"]).into(),
-                    // Overflow on the way.
-                    5 => self
-                        .rng
-                        .pick(&["max", "-max", "x7f000000", "xff000000", "1", "0"])
-                        .into(),
-                    // Denormal pivots.
-                    6 if on_diagonal => floats::tiny(&mut self.rng),
-                    6 => self.rng.pick(&["0", "-0", "x00000001"]).into(),
-                    // An exchange of all rows.
-                    7 => if (row + zero_column + 1) % n == column {
-                        "2"
-                    } else {
-                        "0"
-                    }
-                    .into(),
-                    // Overflow in one column, no pivot in another.
-                    8 if column == zero_column => self.rng.pick(&["0", "-0"]).into(),
-                    8 => self.rng.pick(&["max", "-max", "1", "1", "-1", "0"]).into(),
-                    // A chain of masses.
-                    _ if on_diagonal => "4".into(),
-                    _ if row.abs_diff(column) == 1 => "-1".into(),
-                    _ => "0".into(),
-                };
-                let entry = if fault_at == Some(row * n + column) {
-                    floats::odd(&mut self.rng)
-                } else {
-                    entry
-                };
-                entries.push(entry);
-            }
-        }
-        entries.iter().map(|entry| format!(" {entry}")).collect()
-    }
-
     pub fn write_mass_of(&mut self, n: usize) {
-        let line = format!("mass {n}{}", self.mass_of(n));
-        self.command(&line);
+        let matrix = masses::any(&mut self.hand, n);
+        self.command(Command::Mass { matrix });
     }
 
     pub fn write_mass(&mut self) {
         let dofs = self.dofs();
-        let n = match self.rng.below(10) {
+        let rng = &mut self.hand.rng;
+        let n = match rng.below(10) {
             0 => dofs.saturating_sub(1),
             1 => dofs + 1,
-            2..=5 => self.rng.below(6),
-            6 => self.rng.below(13),
-            7 if self.rng.chance(100) => self.rng.between(13, 48),
+            2..=5 => rng.below(6),
+            6 => rng.below(13),
+            7 if rng.chance(100) => rng.between(13, 48),
             _ => dofs,
         };
         self.write_mass_of(n.min(DOFS));
@@ -415,106 +339,78 @@ impl Author {
         let n = self.dofs();
         let fits = self.session.mass().len() == n * n;
         let renew = if fits { 60 } else { 900 };
-        if self.rng.chance(renew) && (n <= 16 || self.rng.chance(300)) {
+        if self.hand.rng.chance(renew) && (n <= 16 || self.hand.rng.chance(300)) {
             self.write_mass_of(n);
         }
     }
 
     pub fn write_solve(&mut self) {
-        if self.rng.chance(400) {
-            let n = self.rng.below(7);
+        if self.hand.rng.chance(400) {
+            let n = self.hand.rng.below(7);
             self.write_mass_of(n);
         }
         let side = self.session.mass().len().isqrt();
-        let count = match self.rng.below(10) {
+        let rng = &mut self.hand.rng;
+        let count = match rng.below(10) {
             0 => side.saturating_sub(1),
             1 => side + 1,
-            2 => self.rng.below(side + 1),
-            3 if self.rng.chance(200) => self.rng.between(47, 60),
+            2 => rng.below(side + 1),
+            3 if rng.chance(200) => rng.between(47, 60),
             _ => side,
         };
-        let line = format!("solve{}", self.floats(count));
-        self.command(&line);
+        let right = self.hand.floats(count);
+        self.command(Command::Solve { right });
     }
 
     pub fn write_limit(&mut self) {
         self.lend_mass();
-        let (_, at) = self.free_axis();
-        let (min, max) = match self.rng.below(12) {
-            0 => (self.float(), self.float()),
-            1 => ("0.5".into(), "0.5".into()),
-            2 => ("0.5".into(), "x3effffff".into()),
-            3 => ("-0".into(), "0".into()),
-            4 => ("0".into(), "-0".into()),
-            _ => (format!("-{}", floats::tame_below_one(&mut self.rng)), self.positive()),
-        };
-        let pos = match self.rng.below(6) {
-            0 => min.clone(),
-            1 => max.clone(),
-            _ => self.float(),
-        };
-        let line = format!(
-            "limit {at} {pos} {min} {max} {} {} {}",
-            self.positive(),
-            self.erp_inv_dt(),
-            self.cfm_coeff()
-        );
-        self.command(&line);
-    }
-
-    fn erp_inv_dt(&mut self) -> String {
-        if self.rng.chance(300) {
-            "10".into()
-        } else {
-            self.float()
-        }
-    }
-
-    /// At minus one the divisor of a row is zero.
-    fn cfm_coeff(&mut self) -> String {
-        match self.rng.below(8) {
-            0 => "-1".into(),
-            1 => "0".into(),
-            _ => self.positive(),
-        }
+        let [link, axis] = self.free_axis();
+        let limit = self.hand.limit();
+        self.command(Command::Limit { link, axis, limit });
     }
 
     pub fn write_friction(&mut self) {
         self.lend_mass();
-        let (_, at) = self.free_axis();
-        let dt = match self.rng.below(12) {
-            0 => self.float(),
-            1 => "-0".into(),
-            _ => self.positive(),
+        let [link, axis] = self.free_axis();
+        let dt = match self.hand.rng.below(12) {
+            0 => self.hand.float(),
+            1 => -0.0,
+            _ => self.hand.positive(),
         };
-        let line = format!("friction {at} {dt} {}", self.cfm_coeff());
-        self.command(&line);
+        let cfm_coeff = self.hand.cfm_coeff();
+        self.command(Command::Friction {
+            link,
+            axis,
+            dt,
+            cfm_coeff,
+        });
     }
 
     pub fn write_filljac(&mut self) {
         self.lend_mass();
-        let line = format!("filljac {}{}", self.link(), self.floats(3));
-        self.command(&line);
+        let link = self.link();
+        let (force, torque) = (self.hand.point(), self.hand.float());
+        self.command(Command::Filljac { link, force, torque });
     }
 
     /// Large arms are printed more rarely.
     fn prints(&mut self) -> bool {
-        !self.is_large() || self.rng.chance(300)
+        !self.is_large() || self.hand.rng.chance(300)
     }
 
     pub fn write_dump(&mut self) {
         if self.prints() {
-            self.command("dump");
+            self.command(Command::Dump);
         }
     }
 
     pub fn write_kin(&mut self) {
         if self.prints() {
-            self.command("kin");
+            self.command(Command::Kin);
         }
     }
 
     pub fn write_check(&mut self) {
-        self.command("check");
+        self.command(Command::Check);
     }
 }

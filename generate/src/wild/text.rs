@@ -1,143 +1,38 @@
 //! Lines at the borders of what can be read, and past them.
 
 use super::author::Author;
-use super::floats;
+use crate::spelling::{decimal, no_float};
 use script::MOST_LINE;
-use script::NAMES;
 
 impl Author {
     /// A line of text of any kind.
     pub fn write_text(&mut self) {
-        match self.rng.weighted(&[60, 14, 10, 10, 6, 1]) {
+        let rng = &mut self.hand.rng;
+        match rng.weighted(&[240, 56, 40, 40, 24, 1]) {
             0 => {
-                self.mangling = true;
+                self.spoils = true;
                 self.write_any();
-                self.mangling = false;
+                self.spoils = false;
             }
             1 => self.write_fixed_text(),
             2 => self.write_nothing(),
             3 => {
-                let decimal = floats::decimal(&mut self.rng);
-                let name = self
-                    .rng
-                    .pick(&["rot", "poke table 2304", "solve", "poke coordinate 3 1"]);
-                self.say(format!("{name} {decimal}"));
+                let name = rng.pick(&["rot", "poke table 2304", "solve", "poke coordinate 3 1"]);
+                let word = decimal(rng);
+                self.say(format!("{name} {word}"));
             }
             4 => {
-                let word = floats::no_float(&mut self.rng);
-                let name = self.rng.pick(&["rot", "step", "solve", "poke table 5", "mass 1"]);
+                let name = rng.pick(&["rot", "step", "solve", "poke table 5", "mass 1"]);
+                let word = no_float(rng);
                 self.say(format!("{name} {word}"));
             }
             _ => self.write_long(),
         }
     }
 
-    /// A line that is spoilt in one place, unless the change doesn't matter.
-    pub fn mangled(&mut self, line: &str) -> Vec<u8> {
-        let mut words: Vec<Vec<u8>> = line
-            .split(' ')
-            .filter(|w| !w.is_empty())
-            .map(|w| w.as_bytes().into())
-            .collect();
-        let at = self.rng.below(words.len());
-        match self.rng.below(14) {
-            0 | 1 => drop(words.remove(at)),
-            2 => words.truncate(at.max(1)),
-            3 | 4 => {
-                let spare = self.spare_word();
-                words.push(spare);
-            }
-            5 => {
-                let spare = self.spare_word();
-                words.insert(at, spare);
-            }
-            6 => words[at] = floats::no_float(&mut self.rng).into(),
-            7 => words[at] = self.no_number(),
-            8 => words[at] = floats::decimal(&mut self.rng).into(),
-            9 => words[0].make_ascii_uppercase(),
-            10 => {
-                let byte = self
-                    .rng
-                    .pick(&[b'\t', b'\r', 0, 0xFF, 0x80, 0xA0, 0x0B, b'#', b'_', b'x', b'1']);
-                let place = self.rng.below(words[at].len() + 1);
-                words[at].insert(place, byte);
-            }
-            11 => {
-                let place = self.rng.below(words[at].len());
-                words[at].remove(place);
-            }
-            12 if words.len() > 1 => {
-                let tail = words.split_off(1);
-                let glue: &[u8] = self.rng.pick(&[b"\t", b",", b""]);
-                words[0].extend_from_slice(&[glue, &tail[0]].concat());
-                words.extend_from_slice(&tail[1..]);
-            }
-            _ => words[0] = self.command_word(),
-        }
-        words.join(&b' ')
-    }
-
-    fn spare_word(&mut self) -> Vec<u8> {
-        self.rng
-            .pick(&[
-                "0",
-                "1",
-                "0.5",
-                "nan",
-                "vel",
-                "#",
-                "# spare",
-                "\r",
-                "\t",
-                "-",
-                "x00000000",
-            ])
-            .into()
-    }
-
-    fn no_number(&mut self) -> Vec<u8> {
-        let words = [
-            "4294967296",
-            "4294967295",
-            "42949672950",
-            "18446744073709551616",
-            "-1",
-            "-0",
-            "+1",
-            "1.0",
-            "0.5",
-            "x1",
-            "x00000001",
-            "1a",
-            "nan",
-            "99999999999999999999999999",
-            "00000000004294967296",
-            "00000000004294967295",
-            "0x1",
-        ];
-        self.rng.pick(&words).into()
-    }
-
-    /// A command, or a word that might be taken for one.
-    fn command_word(&mut self) -> Vec<u8> {
-        const OTHERS: [&str; 9] = [
-            "links",
-            "New",
-            "short-out",
-            "shortout",
-            "springof",
-            "quit",
-            "help",
-            "ok",
-            "tick",
-        ];
-        let words = [&NAMES[..], &OTHERS].concat();
-        self.rng.pick(&words).into()
-    }
-
     /// Lines that each name one border.
     fn write_fixed_text(&mut self) {
-        let line: &str = self.rng.pick(&[
+        let line: &str = self.hand.rng.pick(&[
             "poke links 255",
             "poke links 256",
             "poke couplings 256",
@@ -258,12 +153,12 @@ impl Author {
             "link 1 0 7 0 0 1 0 0 0 1 0 0 0 0",
             "link 1 0 7 0 0 1 0 0 0 1 0 0 0 0 0 0",
         ]);
-        self.command(line);
+        self.line(line);
     }
 
     /// A line that is passed over.
     fn write_nothing(&mut self) {
-        let line: &[u8] = self.rng.pick(&[
+        let line: &[u8] = self.hand.rng.pick(&[
             b"",
             b" ",
             b"     ",
@@ -280,8 +175,9 @@ impl Author {
 
     /// A line around the longest, or much longer.
     fn write_long(&mut self) {
-        let length = MOST_LINE + self.rng.pick(&[0, 0, 1, 1, 2, 1000]);
+        let length = MOST_LINE + self.hand.rng.pick(&[0, 0, 1, 1, 2, 1000]);
         let name = self
+            .hand
             .rng
             .pick(&["dump", "check", "new", "rot 1", "masks 0 0 0", "poke links 3"]);
         let filled = |begin: &str, filler: &str| {
@@ -289,7 +185,7 @@ impl Author {
             line.extend(filler.chars().cycle().take(length - begin.len()));
             line
         };
-        let line = match self.rng.below(9) {
+        let line = match self.hand.rng.below(9) {
             0 => filled(name, " "),
             1 => format!("{}{name}", " ".repeat(length - name.len())),
             2 => filled("#", "x"),
