@@ -31,31 +31,23 @@ impl NewLink {
     /// A link whose joint is locked on every axis, frames and centre of mass at the origin. The rest is set by its fields.
     #[must_use]
     pub fn fixed(tag: impl Into<Tag>, parent: impl Into<Which>) -> NewLink {
-        NewLink {
-            tag: tag.into(),
-            parent: parent.into(),
-            ..abi::NewLink::fixed(0, 0).into()
-        }
+        NewLink::from(abi::NewLink::fixed(0, 0)).named(tag.into(), parent.into())
     }
 
     /// The same, free to turn.
     #[must_use]
     pub fn hinged(tag: impl Into<Tag>, parent: impl Into<Which>) -> NewLink {
-        NewLink {
-            tag: tag.into(),
-            parent: parent.into(),
-            ..abi::NewLink::hinged(0, 0).into()
-        }
+        NewLink::from(abi::NewLink::hinged(0, 0)).named(tag.into(), parent.into())
     }
 
     /// The same, free on every axis.
     #[must_use]
     pub fn free(tag: impl Into<Tag>, parent: impl Into<Which>) -> NewLink {
-        NewLink {
-            tag: tag.into(),
-            parent: parent.into(),
-            ..abi::NewLink::free(0, 0).into()
-        }
+        NewLink::from(abi::NewLink::free(0, 0)).named(tag.into(), parent.into())
+    }
+
+    fn named(self, tag: Tag, parent: Which) -> NewLink {
+        NewLink { tag, parent, ..self }
     }
 
     /// As it crosses the boundary to an arm.

@@ -2,6 +2,7 @@
 
 mod calls;
 mod equality;
+mod exported;
 mod memory;
 mod methods;
 mod outline;
