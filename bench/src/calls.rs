@@ -25,7 +25,7 @@ pub const VALUE: f32 = 0.5;
 pub const DT: f32 = 0.0;
 
 impl Call {
-    pub fn ours(self, edited: &mut Edited, tables: &mut [f32]) {
+    pub fn ours(self, edited: &mut Edited, tables: &mut [f32]) -> u8 {
         match self {
             Call::WriteVelocity { link } => ffi::write_velocity(edited, link, axis::ANGLE, VALUE),
             Call::AddLink { parent } => {
@@ -84,7 +84,7 @@ fn timed(call: Call, links: usize) -> Times {
     let [ours, by_value, rust] = least([
         &mut || {
             edited.arm.link_count = links;
-            black_box(call).ours(black_box(&mut edited), black_box(&mut tables));
+            black_box(black_box(call).ours(black_box(&mut edited), black_box(&mut tables)));
         },
         &mut || {
             copied.0.link_count = links;

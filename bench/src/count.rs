@@ -33,7 +33,9 @@ pub fn run(words: &[String]) {
         edited.arm.link_count = *links;
         arm.link_count = *links;
         match side.as_str() {
-            "ours" => black_box(call).ours(black_box(&mut edited), black_box(&mut tables)),
+            "ours" => {
+                let _ = black_box(black_box(call).ours(black_box(&mut edited), black_box(&mut tables)));
+            }
             "by-value" => {
                 let _ = black_box(by_value(black_box(&mut arm), black_box(&mut other_tables), *call));
             }
