@@ -96,7 +96,7 @@ fn without_a_toolchain_an_archive_that_fits_is_linked_and_any_other_is_not() {
             .unwrap()
     };
     let said = told(without());
-    assert!(said.contains("cargo::warning=there is no `rt` on PATH"), "{said}");
+    assert!(said.contains("cargo::warning=`rt version` doesn't run"), "{said}");
     assert!(said.contains("cargo::rustc-link-lib=static=giellavor\n"), "{said}");
     repository.write("crates/base/src/lib.rt", "// Base\n");
     let run = without();
@@ -117,6 +117,18 @@ fn an_archive_that_cannot_be_made_is_not_linked() {
     assert!(!run.status.success());
     assert!(!String::from_utf8_lossy(&run.stdout).contains("rustc-link-lib"));
     assert!(String::from_utf8_lossy(&run.stderr).contains("`rt staticlib sizes` failed"));
+}
+
+#[test]
+fn an_archive_whose_sources_change_meanwhile_is_not_linked() {
+    let repository = Repository::new("meanwhile");
+    repository.write("kit/meanwhile", "// Base\n");
+    let run = repository.script().output().unwrap();
+    assert!(!run.status.success());
+    assert!(String::from_utf8_lossy(&run.stderr).contains("build once more"));
+    fs::remove_file(repository.path("kit/meanwhile")).unwrap();
+    repository.made();
+    assert_eq!(repository.run(), JOINED);
 }
 
 #[test]
