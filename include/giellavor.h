@@ -26,6 +26,7 @@ extern "C" {
 
 /* ---- What archive this is the header of */
 
+/* `giellavor_fits`, at the end, compares all of it. */
 #define GIELLAVOR_VERSION 1
 
 /* The version of the archive. */
@@ -382,6 +383,29 @@ GiellavorConstraintRow giellavor_friction_row(
 GiellavorSums giellavor_fill_jacobians(
     GiellavorArm arm, uint32_t link, GiellavorForce force, const float *tables, size_t tables_len, const float *mass, size_t mass_len,
     float *j, size_t j_len, float *wj, size_t wj_len);
+
+/* ---- The archive */
+
+/* Whether the archive that is linked is the one of this header, by its version and the size of every struct: 1 or 0. To be asked before the first call; of
+ * another archive no other function may be called. */
+static inline int giellavor_fits(void)
+{
+    static const size_t sizes[] = {
+        sizeof(GiellavorRotation), sizeof(GiellavorPoint), sizeof(GiellavorPose), sizeof(GiellavorJoint), sizeof(GiellavorSpring),
+        sizeof(GiellavorLink), sizeof(GiellavorCoupling), sizeof(GiellavorRow), sizeof(GiellavorArm), sizeof(GiellavorNewLink),
+        sizeof(GiellavorNewCoupling), sizeof(GiellavorLimits), sizeof(GiellavorForce), sizeof(GiellavorEdited), sizeof(GiellavorRotated),
+        sizeof(GiellavorCount), sizeof(GiellavorCounted), sizeof(GiellavorRowPart), sizeof(GiellavorSpringAnswer),
+        sizeof(GiellavorAxesAnswer), sizeof(GiellavorConstraintRow), sizeof(GiellavorSums), 0};
+    if (giellavor_version() != GIELLAVOR_VERSION) {
+        return 0;
+    }
+    for (uint32_t place = 0; place < sizeof sizes / sizeof *sizes; place++) {
+        if (giellavor_size(place) != sizes[place]) {
+            return 0;
+        }
+    }
+    return 1;
+}
 
 #ifdef __cplusplus
 }

@@ -22,8 +22,10 @@ pub fn time() {
         "call",
         "in and out"
     );
-    let mut line = |name: &str, call: &mut dyn FnMut(&mut Edited, &mut [f32])| {
-        let [ns] = least([&mut || call(black_box(&mut edited), black_box(&mut tables))]);
+    let mut line = |name: &str, call: &mut dyn FnMut(&mut Edited, &mut [f32]) -> u8| {
+        let [ns] = least([&mut || {
+            black_box(call(black_box(&mut edited), black_box(&mut tables)));
+        }]);
         println!("{name:28} {ns:9.0} {crossing:9.0} {:5.1} %", 100.0 * crossing / ns);
     };
     let last = LINKS as u32 - 1;

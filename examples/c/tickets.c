@@ -114,19 +114,12 @@ static void old_number(void)
     free(picture);
 }
 
-/* The archive that is linked is of the version of the header that was read, and its arms are as large. */
-static void check_archive(void)
-{
-    const uint32_t place_of_arm = 8;
-    if (giellavor_version() != GIELLAVOR_VERSION || giellavor_size(place_of_arm) != sizeof(GiellavorArm)) {
-        fputs("the archive is not the one of this header\n", stderr);
-        exit(1);
-    }
-}
-
 int main(void)
 {
-    check_archive();
+    if (!giellavor_fits()) {
+        fputs("the archive is not the one of this header\n", stderr);
+        return 1;
+    }
     stale_picture();
     old_number();
     return 0;

@@ -47,15 +47,14 @@ impl Archive {
     pub fn link(&self, root: &Path, folder: &Path, toolchain: Option<&str>) {
         let sources = Sources::of(root, self.crates);
         let (file, stamp) = self.files(folder);
-        match self.unfit(folder, &sources, toolchain) {
-            None => {}
-            Some(why) => match toolchain {
-                Some(toolchain) => self.make(root, folder, &sources, toolchain),
-                None => stop(&format!(
+        if let Some(why) = self.unfit(folder, &sources, toolchain) {
+            let Some(toolchain) = toolchain else {
+                stop(&format!(
                     "{} has to be made ({why}), and `rt version` doesn't run: put the Rattle kit's `rt` on PATH.",
                     file.display()
-                )),
-            },
+                ))
+            };
+            self.make(root, folder, &sources, toolchain);
         }
         for path in sources.folders.iter().chain([&file, &stamp]) {
             println!("cargo::rerun-if-changed={}", path.display());
@@ -94,6 +93,9 @@ impl Archive {
         let made = folder.join(format!("made.{}", process::id()));
         let _ = fs::remove_file(&made);
         kit::join(&parts, &made);
+        if Sources::of(root, self.crates).sum != sources.sum {
+            stop("the sources have changed while an archive was made of them: build once more.");
+        }
         let archive = fs::read(&made).unwrap_or_else(|why| stop(&format!("{} can't be read: {why}", made.display())));
         put(&made, &file);
         let text = Stamp {

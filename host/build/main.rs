@@ -47,12 +47,12 @@ fn main() {
     println!("cargo::rerun-if-env-changed=PATH");
     println!("cargo::rerun-if-env-changed=RATTLE_HOME");
     println!("cargo::rustc-link-search=native={}", folder.display());
+    if let Some(rt) = kit::rt() {
+        println!("cargo::rerun-if-changed={}", rt.display());
+    }
     let toolchain = kit::version();
-    match kit::rt() {
-        Some(rt) => println!("cargo::rerun-if-changed={}", rt.display()),
-        None => println!(
-            "cargo::warning=there is no `rt` on PATH: archives are believed to be of the toolchain that made them"
-        ),
+    if toolchain.is_none() {
+        println!("cargo::warning=`rt version` doesn't run: whether another toolchain made the archives isn't known");
     }
     let asked = FEATURES.iter().filter(|(set, _)| env::var_os(set).is_some());
     let _alone = alone(&root.join("crates.txt"));

@@ -5,6 +5,9 @@
 //! changed: of an answer it is the field `refusal`, 0 for none; an `i32` is a count, or a refusal's number below zero. What edits an [`Edited`] puts the
 //! answer in its place and returns its refusal: a refused one leaves the arm as it was.
 //!
+//! An arm's picture is its poses, shifts and tables. It stays fresh where an arm from [`empty`], or from a part of a split, and the tables that it was worked
+//! out into go through these functions together. Whoever writes either by hand, or hands in other tables, calls [`full_working`] first.
+//!
 //! Before the first call the archive is asked for its version and the size of every struct. Where these aren't this crate's, no function of it is run:
 //! every call is refused by 255, and answers zeros beside that.
 #![allow(unsafe_code)]
@@ -48,43 +51,41 @@ macro_rules! exported {
     (@ $notes:tt $name:ident $result:tt [$($given:tt)*] [$($crosses:tt)*] [$($value:tt)*] $p:ident: $of:ty, $($rest:tt)*) => {
         exported!(@ $notes $name $result [$($given)* $p: $of,] [$($crosses)* _: $of,] [$($value)* $p,] $($rest)*);
     };
-    (@ [$($note:tt)*] $name:ident [] [$edited:ident: &mut Edited, $($given:tt)*] [$($crosses:tt)*] [$($value:tt)*]) => {
+    (@ [$($note:tt)*] $name:ident [] [$edited:ident: &mut Edited, $($given:tt)*] $crosses:tt $value:tt) => {
         $($note)*
         #[must_use = "the number of a refusal, or 0"]
         pub fn $name($edited: &mut Edited, $($given)*) -> u8 {
-            exported!(@ $name [$($crosses)*] Edited);
             if archive::fits() {
-                // SAFETY: as below.
-                *$edited = unsafe { exported($($value)*) };
+                *$edited = exported!(@ $name $crosses Edited, $value);
             } else {
                 $edited.refusal = archive::WRONG;
             }
             $edited.refusal
         }
     };
-    (@ [$($note:tt)*] $name:ident [$result:ty] [$($given:tt)*] [$($crosses:tt)*] [$($value:tt)*]) => {
+    (@ [$($note:tt)*] $name:ident [$result:ty] [$($given:tt)*] $crosses:tt $value:tt) => {
         $($note)*
         #[must_use = "it may be a refusal"]
         pub fn $name($($given)*) -> $result {
-            exported!(@ $name [$($crosses)*] $result);
             if archive::fits() {
-                // SAFETY: the declaration is the one of the Rattle source (tests/boundary), and the archive is of its version, with structs of these
-                // sizes. A pointer and a count are a slice's: as many values, aligned, that live through the call; nobody else writes them during it,
-                // nor reads what is lent mutably, so that no two that cross overlap where one is written. An empty slice's pointer dangles, but is
-                // aligned and not null, and nothing is read or written by a count of 0. The function keeps no pointer, and is proved to return,
-                // within the slices, for every value of every argument.
-                unsafe { exported($($value)*) }
+                exported!(@ $name $crosses $result, $value)
             } else {
                 <$result>::WRONG
             }
         }
     };
-    (@ $name:ident [$($crosses:tt)*] $result:ty) => {
+    // The call itself, of an archive that fits.
+    (@ $name:ident [$($crosses:tt)*] $result:ty, [$($value:tt)*]) => {{
         unsafe extern "C" {
             #[link_name = concat!("giellavor_", stringify!($name))]
             fn exported($($crosses)*) -> $result;
         }
-    };
+        // SAFETY: the declaration is that of the Rattle source (tests/boundary), and the archive is of its version, with structs of these sizes. A pointer
+        // and a count are a slice's: as many values, aligned, that live through the call; nobody else writes them during it, nor reads what is lent
+        // mutably, so that no two overlap where one is written. An empty slice's pointer dangles, but is aligned and not null, and by a count of 0 nothing
+        // is read or written. The function keeps no pointer, and is proved to return, within the slices, for every value of every argument.
+        unsafe { exported($($value)*) }
+    }};
 }
 
 // ---- Splits and counts over bare lists
@@ -270,7 +271,8 @@ exported! {
     fn fill_jacobians(arm: &Arm, link: u32, force: Force, tables: &[f32], mass: &[f32], j: &mut [f32], wj: &mut [f32]) -> Sums;
 }
 
-/// What `bench/` times beside the calls: an arm that crosses and does nothing else, and a pose product.
+/// What `bench/` times beside the calls: an arm that crosses and does nothing else, and a pose product. They stand in archives of their own, which the
+/// build script makes of the same sources.
 #[cfg(feature = "timed")]
 #[doc(hidden)]
 pub mod timed {

@@ -133,7 +133,7 @@ pub struct AxesAnswer {
     pub axes: [f32; 3],
 }
 
-// The accelerations of a link's joint, put on their axes.
+// The accelerations of a link's joint, which begin with the link's own, put on their axes.
 pub fn jacobian_mul_coordinates(arm: Arm, link: u32, accelerations: &[f32]) -> AxesAnswer
     ensures { λ r. ⌜ r ≡ mulAnswer arm link (now (accelerations .entry)) ⌝ }
 {

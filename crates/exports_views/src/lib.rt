@@ -81,7 +81,7 @@ pub extern "C" fn giellavor_spring(arm: Arm, link: u32, axis: u32) -> SpringAnsw
     arm_views::spring(arm, link, axis)
 }
 
-// The accelerations of a link's joint, put on their axes. Refused: 1 to 5, 7, 9.
+// The accelerations of a link's joint, which begin with the link's own, put on their axes. Refused: 1 to 5, 7, 9.
 #[no_mangle]
 pub extern "C" fn giellavor_jacobian_mul_coordinates(
     arm: Arm,

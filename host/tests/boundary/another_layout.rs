@@ -1,12 +1,13 @@
 //! An archive that isn't the one of this crate is never run. Here is one of the right names whose functions kill the process, and that says of itself what
 //! it is told to say. A program over the crate is linked with it, in the place of what the build script links, and every call of it is refused by 255.
 
-use crate::source::{exported, host};
+use crate::source::{exported, host, include};
 use giellavor::ffi;
 use std::env;
+use std::ffi::OsString;
 use std::fs;
 use std::path::{Path, PathBuf};
-use std::process::{Command, Output};
+use std::process::Command;
 
 const TARGET: &str = "x86_64-unknown-linux-gnu";
 
@@ -15,19 +16,49 @@ const LIES: [&str; 3] = ["OTHER_VERSION", "OTHER_SIZE", "ONE_STRUCT_MORE"];
 
 #[test]
 fn no_function_of_an_archive_of_another_layout_is_run() {
-    let program = Program::linked();
-    let calls = exported().len() - 2;
+    let folder = folder("another_layout");
+    build_program(&folder);
+    let run = |lie: Option<&str>| cargo(&folder, "run").envs(lie.map(|lie| (lie, "1"))).output().unwrap();
     for lie in LIES {
-        let said = program.run(Some(lie));
+        let said = run(Some(lie));
         let text = String::from_utf8_lossy(&said.stdout);
         assert!(said.status.success(), "{lie}: {said:?}");
-        assert_eq!(text.lines().count(), calls, "{text}");
+        assert_eq!(text.lines().count(), exported().len() - 2, "{text}");
         for line in text.lines() {
             assert!(line.ends_with(" 255"), "{lie}: {line}");
         }
     }
     // Where it says what it should, its functions are run: that they kill is no empty threat.
-    assert!(!program.run(None).status.success());
+    assert!(!run(None).status.success());
+}
+
+#[test]
+fn a_c_program_is_told_before_its_first_call() {
+    let folder = folder("another_layout_in_c");
+    let source = include().join("../examples/c/tickets.c");
+    cc(
+        &folder,
+        &[
+            "-I",
+            &include().to_string_lossy(),
+            &source.to_string_lossy(),
+            "stand_in.o",
+            "-o",
+            "tickets",
+        ],
+    );
+    let words = env::var_os("RUN").into_iter().chain([folder.join("tickets").into()]);
+    let words: Vec<OsString> = words.collect();
+    let run = |lie: Option<&str>| {
+        let mut program = Command::new(&words[0]);
+        program.args(&words[1..]).envs(lie.map(|lie| (lie, "1")));
+        program.output().unwrap().status.code()
+    };
+    // Killed, it has no code.
+    assert_eq!(run(None), None);
+    for lie in LIES {
+        assert_eq!(run(Some(lie)), Some(1), "{lie}");
+    }
 }
 
 /// The archive's text: what it says of itself, and under every other name what kills.
@@ -69,60 +100,44 @@ fn archive_of(object: &[u8]) -> Vec<u8> {
     archive
 }
 
-/// The program of `another_layout/`, in a folder of its own.
-struct Program {
-    folder: PathBuf,
+fn cc(folder: &Path, words: &[&str]) {
+    let mut compiler = Command::new(env::var_os("CC").unwrap_or("cc".into()));
+    assert!(compiler.args(words).current_dir(folder).status().unwrap().success());
 }
 
-impl Program {
-    fn linked() -> Program {
-        let folder = Path::new(env!("CARGO_TARGET_TMPDIR")).join("another_layout");
-        fs::create_dir_all(folder.join("src")).unwrap();
-        fs::create_dir_all(folder.join(".cargo")).unwrap();
-        let put = |name: &str, text: &str| fs::write(folder.join(name), text).unwrap();
-        put("stand_in.c", &stand_in());
-        put("src/main.rs", include_str!("another_layout/program.rs"));
-        put(
-            "Cargo.toml",
-            &format!(
-                "[package]\nname = \"another_layout\"\nedition = \"2024\"\n\
-                 [dependencies]\ngiellavor = {{ path = {:?} }}\n[workspace]\n",
-                host()
-            ),
-        );
-        // Cargo then runs no build script for what has this `links` key.
-        put(
-            ".cargo/config.toml",
-            &format!(
-                "[target.{TARGET}.giellavor]\nrustc-link-lib = [\"static=giellavor\"]\nrustc-link-search = [{folder:?}]\n"
-            ),
-        );
-        let mut compiler = Command::new(env::var_os("CC").unwrap_or("cc".into()));
-        let compiled = compiler
-            .args(["-c", "stand_in.c", "-o", "stand_in.o"])
-            .current_dir(&folder)
-            .status();
-        assert!(compiled.unwrap().success());
-        let object = fs::read(folder.join("stand_in.o")).unwrap();
-        fs::write(folder.join("libgiellavor.a"), archive_of(&object)).unwrap();
-        let program = Program { folder };
-        let built = program.cargo("build").output().unwrap();
-        assert!(built.status.success(), "{}", String::from_utf8_lossy(&built.stderr));
-        program
-    }
+/// A folder with the stand-in as an object file and as an archive.
+fn folder(name: &str) -> PathBuf {
+    let folder = Path::new(env!("CARGO_TARGET_TMPDIR")).join(name);
+    fs::create_dir_all(&folder).unwrap();
+    fs::write(folder.join("stand_in.c"), stand_in()).unwrap();
+    cc(&folder, &["-c", "stand_in.c", "-o", "stand_in.o"]);
+    let object = fs::read(folder.join("stand_in.o")).unwrap();
+    fs::write(folder.join("libgiellavor.a"), archive_of(&object)).unwrap();
+    folder
+}
 
-    fn cargo(&self, verb: &str) -> Command {
-        let mut cargo = Command::new(env::var_os("CARGO").unwrap_or("cargo".into()));
-        cargo
-            .args([verb, "--offline", "--quiet", "--target", TARGET])
-            .current_dir(&self.folder);
-        cargo.env("CARGO_TARGET_DIR", self.folder.join("target"));
-        cargo
-    }
+/// Builds `another_layout/program.rs` there. For what has the `links` key that the configuration names, cargo runs no build script.
+fn build_program(folder: &Path) {
+    let manifest = format!(
+        "[package]\nname = \"another_layout\"\nedition = \"2024\"\n\
+         [dependencies]\ngiellavor = {{ path = {:?} }}\n[workspace]\n",
+        host()
+    );
+    let configuration = format!(
+        "[target.{TARGET}.giellavor]\nrustc-link-lib = [\"static=giellavor\"]\nrustc-link-search = [{folder:?}]\n"
+    );
+    fs::create_dir_all(folder.join("src")).unwrap();
+    fs::create_dir_all(folder.join(".cargo")).unwrap();
+    fs::write(folder.join("src/main.rs"), include_str!("another_layout/program.rs")).unwrap();
+    fs::write(folder.join("Cargo.toml"), manifest).unwrap();
+    fs::write(folder.join(".cargo/config.toml"), configuration).unwrap();
+    let built = cargo(folder, "build").output().unwrap();
+    assert!(built.status.success(), "{}", String::from_utf8_lossy(&built.stderr));
+}
 
-    fn run(&self, lie: Option<&str>) -> Output {
-        let mut cargo = self.cargo("run");
-        cargo.envs(lie.map(|lie| (lie, "1")));
-        cargo.output().unwrap()
-    }
+fn cargo(folder: &Path, verb: &str) -> Command {
+    let mut cargo = Command::new(env::var_os("CARGO").unwrap_or("cargo".into()));
+    cargo.args([verb, "--offline", "--quiet", "--target", TARGET]);
+    cargo.env("CARGO_TARGET_DIR", folder.join("target")).current_dir(folder);
+    cargo
 }

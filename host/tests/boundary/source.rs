@@ -294,8 +294,10 @@ pub fn include() -> PathBuf {
     host().join("../include")
 }
 
+/// The header up to the one function that it defines itself.
 fn header() -> String {
     let text = fs::read_to_string(include().join("giellavor.h")).unwrap();
+    let text = text.split("static inline").next().unwrap();
     let mut code = String::new();
     for (number, piece) in text.split("/*").enumerate() {
         code += if number == 0 {
