@@ -7,21 +7,33 @@
 //!     accel DT                                T-02's accelerations
 //!     ik N (3·N floats) DAMPING (3) (N)       T-11: Jacobian in rows, movement, displacements
 //!     alone link .. | step DT | part ..       the crate's own call, with no kinematics after it
-use crate::oracle::{cuts, link_of, write_row};
-use crate::script::Answer;
-use plain::script::{Command, Line, Words, float, read};
+
+use super::engine::{Engine, cuts, link_of, told};
 use rapier::{Arm, Body, Row};
+use script::{Command, Line, Lines, Session, Words, float, read, write_row};
 
 /// The answer, if the line is such a command.
-pub fn answer(arm: &mut Arm, line: &[u8]) -> Option<String> {
+pub fn answer(session: &mut Session<Engine>, line: &[u8]) -> Option<String> {
+    let mass = session.mass().to_vec();
+    let arm = &mut session.engine.arm;
+    arm.lend_mass(&mass);
+    let mut text = b"ok\n".to_vec();
+    match line.strip_prefix(b"alone ") {
+        Some(rest) => alone(arm, read(rest))?,
+        None => play(arm, line, &mut Lines::onto(&mut text))?,
+    }
+    String::from_utf8(text).ok()
+}
+
+fn play(arm: &mut Arm, line: &[u8], lines: &mut Lines) -> Option<()> {
     let mut words = Words::of(line);
-    let mut answer = Answer("ok\n".into());
     match words.word()? {
-        b"inv" => answer.line(format_args!("inv"), &[rapier::inv(words.float()?)]),
+        b"inv" => lines.word("inv").float(rapier::inv(words.float()?)).end(),
         b"driven" => arm.set_driven(words.number()? as usize, words.number()? != 0),
         b"couplingrows" => {
-            let rows = arm.coupling_rows(words.number()? as usize, words.float()?);
-            rows.iter().for_each(|row| write_row(&mut answer, "couplingrow", row));
+            for row in arm.coupling_rows(words.number()? as usize, words.float()?) {
+                write_row(lines.word("couplingrow"), &told(&row), [&row.j, &row.wj]);
+            }
         }
         b"body" => {
             let link = words.number()? as usize;
@@ -36,27 +48,18 @@ pub fn answer(arm: &mut Arm, line: &[u8]) -> Option<String> {
         }
         b"accel" => {
             arm.accelerate(words.float()?);
-            answer.line(format_args!("accel"), arm.row(Row::Accelerations));
+            lines.word("accel").floats(arm.row(Row::Accelerations)).end();
         }
         b"ik" => {
             let columns = words.number()? as usize;
             let rows = (0..3 * columns).map(|_| words.float()).collect::<Option<Vec<f32>>>()?;
             let (damping, movement) = (words.float()?, words.floats()?);
-            let displacements = words.rest(float)?;
-            answer.line(
-                format_args!("ik"),
-                &rapier::inverse_kinematics(&rows, damping, movement, &displacements),
-            );
-        }
-        b"alone" => {
-            let rest = line.strip_prefix(b"alone ")?;
-            alone(arm, read(rest))?;
-            return Some(answer.0);
+            let moved = rapier::inverse_kinematics(&rows, damping, movement, &words.rest(float)?);
+            lines.word("ik").floats(&moved).end();
         }
         _ => return None,
     }
-    words.end()?;
-    Some(answer.0)
+    words.end()
 }
 
 fn alone(arm: &mut Arm, line: Line) -> Option<()> {
