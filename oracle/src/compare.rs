@@ -93,21 +93,24 @@ impl Comparison {
         });
         if same {
             for (ours, expected) in ours.iter().zip(expected) {
-                self.line(asked, ours, words(expected));
+                self.line(asked, ours, expected, words(expected));
             }
         }
     }
 
-    fn line<'a>(&mut self, asked: &Asked, ours: &str, expected: impl Iterator<Item = (Place<'a>, Expected<'a>)>) {
-        let mut words = ours.split(' ');
-        for (place, expected) in expected {
-            let Some(word) = words.next() else {
-                return self.judge(asked, Class::Form, false, || format!("too short: {ours}"));
-            };
-            self.word(asked, word, place, expected);
+    fn line<'a>(
+        &mut self,
+        asked: &Asked,
+        ours: &str,
+        expected: &str,
+        words: impl Iterator<Item = (Place<'a>, Expected<'a>)>,
+    ) {
+        let spaces = |line: &str| line.bytes().filter(|&byte| byte == b' ').count();
+        if spaces(ours) != spaces(expected) {
+            return self.judge(asked, Class::Form, false, || format!("{ours} | {expected}"));
         }
-        if words.next().is_some() {
-            self.judge(asked, Class::Form, false, || format!("too long: {ours}"));
+        for (word, (place, expected)) in ours.split(' ').zip(words) {
+            self.word(asked, word, place, expected);
         }
     }
 

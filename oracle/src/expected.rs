@@ -27,7 +27,9 @@ impl Reason {
             Reason::UnderRootShift23 => {
                 "what follows from a free root's shift23 that the crate lacks: the column of its angle, j there, wj and the sums"
             }
-            Reason::IllConditioned => "results of a matrix that f32 can't tell from a singular one",
+            Reason::IllConditioned => {
+                "what rounding alone may have made: of a matrix near a singular one, of a divisor near zero"
+            }
         }
     }
 

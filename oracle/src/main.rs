@@ -1,24 +1,7 @@
 //! Answers of a program compared with those of rapier2d's own multibody_joint files, or with the stored ones.
 
-mod arguments;
-mod files;
-
-mod class;
-
-mod expected;
-
-mod answers;
-mod compare;
-
-mod report;
-mod stored;
-
-mod selftest;
-
-#[cfg(feature = "text")]
-mod text;
-
-use arguments::{Arguments, Outcome};
+use generate::arguments::Arguments;
+use oracle::{Outcome, files, report, selftest, stored};
 use std::process::ExitCode;
 
 const USAGE: &str = "usage:
@@ -35,7 +18,7 @@ and where the crate's text is built in (feature text):
 compare and differ take the crate as it is, and then with its root's shifts given by 01.";
 
 fn main() -> ExitCode {
-    let mut arguments = Arguments(std::env::args().skip(1).collect());
+    let mut arguments = Arguments::of_program();
     let command = arguments.plain().unwrap_or_default();
     let outcome = match command.as_str() {
         "stored" => play_stored(&mut arguments),
@@ -58,7 +41,7 @@ fn main() -> ExitCode {
 
 #[cfg(feature = "text")]
 fn run_with_text(command: &str, arguments: &mut Arguments) -> Outcome {
-    text::run(command, arguments)
+    oracle::text::run(command, arguments)
 }
 
 #[cfg(not(feature = "text"))]

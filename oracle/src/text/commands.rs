@@ -4,9 +4,9 @@ use super::differ::{Options, Way, compare_script, run as run_scripts};
 use super::session::Session;
 use super::store;
 use crate::answers::{Answers, NO_ANSWER};
-use crate::arguments::{Arguments, Outcome};
 use crate::compare::Comparison;
-use crate::{files, report};
+use crate::{Outcome, files, report};
+use generate::arguments::Arguments;
 use generate::families::Family;
 use script::{Line, read};
 use std::io::{Read, Write};
@@ -18,7 +18,7 @@ const SAVE: &str = concat!(env!("CARGO_MANIFEST_DIR"), "/../target-rust/differ")
 /// What the stored list begins with.
 const FIRST: [&str; 2] = [
     include_str!("../../scripts/marked-examples.txt"),
-    include_str!("../../scripts/every-class.txt"),
+    include_str!("../../every-class.txt"),
 ];
 
 pub fn run(command: &str, arguments: &mut Arguments) -> Outcome {
@@ -89,17 +89,16 @@ fn compare_files(script: &str, answers: &str) -> Result<bool, String> {
 }
 
 fn differ(arguments: &mut Arguments) -> Outcome {
-    let number = |word: &str| word.parse::<u64>().ok();
-    let needed = |word: &str| Some(Some(number(word)?));
+    let needed = |word: &str| Some(Some(word.parse::<u64>().ok()?));
     let path = |word: &str| Some(PathBuf::from(word));
-    let first = arguments.option("--from", 0, number)?;
+    let first = arguments.number("--from", 0)?;
     let count = arguments.option("--scripts", None, needed)??;
     let options = Options {
         program: arguments.option("--replay", None, |word| Some(Some(word.to_string())))??,
         seed: arguments.option("--seed", None, needed)??,
         scripts: first..first.checked_add(count)?,
         family: arguments.option("--family", None, |letter| Some(Some(Family::of_letter(letter)?)))?,
-        jobs: arguments.option("--jobs", 2, number)? as usize,
+        jobs: arguments.number("--jobs", 2)? as usize,
         save: arguments.option("--save", SAVE.into(), path)?,
     };
     arguments.all_read()?;

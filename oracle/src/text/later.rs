@@ -1,12 +1,14 @@
 //! Commands beyond the replay script, for showing known differences; read only where asked for.
 //!
-//!     inv X                                   the crate's reciprocal
-//!     driven LINK 0|1                         T-14's flag
-//!     couplingrows LINK ERP_INV_DT            T-07's rows
-//!     body LINK MASS INERTIA (9 floats)       force and torque, body velocity, joint velocity
-//!     accel DT                                T-02's accelerations
-//!     ik N (3·N floats) DAMPING (3) (N)       T-11: Jacobian in rows, movement, displacements
-//!     alone link .. | step DT | part ..       the crate's own call, with no kinematics after it
+//! ```text
+//! inv X                                   the crate's reciprocal
+//! driven LINK 0|1                         T-14's flag
+//! couplingrows LINK ERP_INV_DT            T-07's rows
+//! body LINK MASS INERTIA (9 floats)       force and torque, body velocity, joint velocity
+//! accel DT                                T-02's accelerations
+//! ik N (3·N floats) DAMPING (3) (N)       T-11: Jacobian in rows, movement, displacements
+//! alone link .. | step DT | part ..       the crate's own call, with no kinematics after it
+//! ```
 
 use super::engine::{Engine, cuts, link_of, told};
 use rapier::{Arm, Body, Row};

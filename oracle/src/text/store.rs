@@ -125,8 +125,7 @@ pub fn write(files: &[File], path: &Path) -> io::Result<()> {
 pub fn stands_in(files: &[File], path: &Path) -> bool {
     files.iter().all(|(ending, text)| {
         let found = std::fs::read_to_string(path.with_extension(ending)).unwrap_or_default();
-        let parted = |text: &'static [char; 3]| *text;
-        let [ours, theirs] = [text, &found].map(|text| text.split_inclusive(parted(&[' ', '\n', '/'])));
+        let [ours, theirs] = [text, &found].map(|text| text.split_inclusive([' ', '\n', '/']));
         ours.clone().count() == theirs.clone().count() && ours.zip(theirs).all(|(word, other)| is_alike(word, other))
     })
 }
@@ -231,9 +230,12 @@ impl Teller<'_> {
     /// Whether a look comes late enough after the one before.
     fn is_due(&mut self, command: &Command) -> bool {
         let looks = [matches!(command, Command::Dump), matches!(command, Command::Kin)];
-        let due = (0..2).all(|at| !looks[at] || self.since[at] >= self.size.apart);
-        for at in 0..2 {
-            self.since[at] = if looks[at] && due { 0 } else { self.since[at] + 1 };
+        let due = looks
+            .iter()
+            .zip(self.since)
+            .all(|(look, since)| !look || since >= self.size.apart);
+        for (since, look) in self.since.iter_mut().zip(looks) {
+            *since = if look && due { 0 } else { *since + 1 };
         }
         due
     }

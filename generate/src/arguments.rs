@@ -1,12 +1,14 @@
-//! The words of the command line.
-
-/// What a command came to: whether nothing differs. `None` where its words can't be read.
-pub type Outcome = Option<Result<bool, String>>;
+//! The words of a command line.
 
 /// `--name value`, `--flag`, and plain words.
-pub struct Arguments(pub Vec<String>);
+pub struct Arguments(Vec<String>);
 
 impl Arguments {
+    /// Those of this program.
+    pub fn of_program() -> Arguments {
+        Arguments(std::env::args().skip(1).collect())
+    }
+
     pub fn flag(&mut self, name: &str) -> bool {
         let at = self.0.iter().position(|word| word == name);
         at.map(|at| self.0.remove(at)).is_some()
@@ -22,6 +24,12 @@ impl Arguments {
         Some(value)
     }
 
+    /// A number, or what stands for it.
+    pub fn number(&mut self, name: &str, otherwise: u64) -> Option<u64> {
+        self.option(name, otherwise, |word| word.parse().ok())
+    }
+
+    /// The next plain word.
     pub fn plain(&mut self) -> Option<String> {
         (!self.0.is_empty()).then(|| self.0.remove(0))
     }
