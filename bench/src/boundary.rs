@@ -30,11 +30,11 @@ pub fn time() {
     };
     let last = LINKS as u32 - 1;
     line("row write", &mut |edited, _| {
-        let _ = ffi::write_velocity(edited, last, axis::ANGLE, 0.5);
+        ffi::write_velocity(edited, last, axis::ANGLE, 0.5)
     });
     for (name, link) in [("move of the last link", last), ("move of the first link", 0)] {
         line(name, &mut |edited, tables| {
-            let _ = ffi::move_coordinate(edited, tables, link, axis::X, 0.5);
+            ffi::move_coordinate(edited, tables, link, axis::X, 0.5)
         });
     }
 }

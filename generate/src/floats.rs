@@ -3,6 +3,7 @@
 use crate::rng::Rng;
 use plain::Rotation;
 use plain::limits::MOST_ANGLE;
+use std::f32::consts::{FRAC_PI_2, FRAC_PI_4, PI};
 
 /// A float some steps up or down the f32.
 pub fn beside(x: f32, steps: i32) -> f32 {
@@ -100,12 +101,11 @@ pub fn angle(rng: &mut Rng, most: f32) -> f32 {
         0 => rng.signed() * most,
         1 => {
             // Beside a change of the nearest quarter turn.
-            let eighth = std::f32::consts::FRAC_PI_4;
-            let turns = (most / eighth) as usize;
-            let x = (2 * rng.between(1, turns.div_ceil(2)) - 1) as f32 * eighth;
+            let eighths = (most / FRAC_PI_4) as usize;
+            let x = (2 * rng.between(1, eighths.div_ceil(2)) - 1) as f32 * FRAC_PI_4;
             beside(x, rng.below(7) as i32 - 3).min(most) * rng.sign()
         }
-        2 => rng.pick(&[most, -most, 0.0, -0.0, 1.5707963, 3.1415927, -3.1415927]),
+        2 => rng.pick(&[most, -most, 0.0, -0.0, FRAC_PI_2, PI, -PI]),
         3 => rng.signed() * 8.0,
         _ => within(rng, 2.0),
     }

@@ -17,6 +17,8 @@ pub mod wild;
 
 pub mod compare;
 
+pub mod arguments;
+
 pub use hand::{Hand, Nature};
 pub use rng::Rng;
 pub use shape::Shape;

@@ -13,6 +13,7 @@ impl Rng {
     }
 
     /// The next 64 bits, by Steele, Lea and Flood's splitmix.
+    #[expect(clippy::should_implement_trait, reason = "it has no end to wait for")]
     pub fn next(&mut self) -> u64 {
         self.0 = self.0.wrapping_add(0x9E37_79B9_7F4A_7C15);
         let mut z = self.0;

@@ -1,38 +1,43 @@
 //! What a comparison came to, in words.
-use crate::compare::{Class, Comparison, Rule};
+
+use crate::class::{Class, Rule};
+use crate::compare::Comparison;
 use std::collections::BTreeMap;
-use std::fmt::Display;
+use std::fmt::{Display, Write};
 
 const SHOWN: usize = 20;
 
 pub fn print(comparison: &Comparison) {
     let refused: u64 = comparison.refused.values().sum();
-    let (families, numbers) = (listed(&comparison.scripts), listed(&comparison.refused));
-    println!("scripts by family: {families}");
-    println!("{} commands, {refused} refused ({numbers})", comparison.commands);
+    if !comparison.scripts.is_empty() {
+        println!("scripts by family: {}", listed(&comparison.scripts));
+    }
     println!(
-        "{:34} {:9} {:>12} {:>12} {:>9} {:>8}",
-        "class", "rule", "values", "same bits", "worst", "differ"
+        "{} commands, {refused} refused ({})",
+        comparison.commands,
+        listed(&comparison.refused)
+    );
+    println!(
+        "{:34} {:9} {:>12} {:>12} {:>9} {:>12} {:>8}",
+        "class", "rule", "values", "same bits", "worst", "left out", "differ"
     );
     for class in Class::ALL {
         let count = comparison.counts.get(&class).copied().unwrap_or_default();
         let (rule, worst) = match class.rule() {
-            Rule::Exact => ("exact", String::new()),
-            Rule::Within(_) => ("0.000001", format!("{:.4}", count.worst)),
-            Rule::Share => ("0.001", format!("{:.4}", count.worst)),
-            Rule::ShareOfTerms => ("terms", format!("{:.4}", count.worst)),
+            Rule::Exact => ("exact".to_string(), String::new()),
+            Rule::Number => ("number".to_string(), String::new()),
+            Rule::Within(most) | Rule::Share(most) => (most.to_string(), format!("{:.4}", count.worst)),
         };
         println!(
-            "{:34} {rule:9} {:>12} {:>12} {worst:>9} {:>8}",
+            "{:34} {rule:9} {:>12} {:>12} {worst:>9} {:>12} {:>8}",
             class.name(),
             count.values,
             count.same_bits,
+            count.left_out,
             count.differences
         );
     }
-    for (reason, values) in &comparison.excluded {
-        println!("left out: {values} {}", reason.reason());
-    }
+    print_left_out(comparison);
     for difference in comparison.differences.iter().take(SHOWN) {
         let class = difference.class.name();
         println!(
@@ -41,7 +46,21 @@ pub fn print(comparison: &Comparison) {
         );
         println!("    {}", difference.command);
     }
-    println!("{} differences", differences(comparison));
+    println!("{} differences", comparison.found());
+}
+
+fn print_left_out(comparison: &Comparison) {
+    for (reason, values) in &comparison.left_out {
+        println!("left out: {values} values: {}", reason.words());
+    }
+    for (commands, why) in [
+        (comparison.unasked, "pokes that the crate can't be asked"),
+        (comparison.abandoned, "after a difference in what is accepted"),
+    ] {
+        if commands > 0 {
+            println!("left out: {commands} commands: {why}");
+        }
+    }
 }
 
 fn listed(counts: &BTreeMap<impl Display, u64>) -> String {
@@ -49,6 +68,19 @@ fn listed(counts: &BTreeMap<impl Display, u64>) -> String {
     pairs.join(", ")
 }
 
-pub fn differences(comparison: &Comparison) -> u64 {
-    comparison.counts.values().map(|count| count.differences).sum()
+/// How many words of each class were compared, and how many left out.
+pub fn counts(comparison: &Comparison) -> String {
+    let mut text = format!("{} commands\n", comparison.commands);
+    for class in Class::ALL {
+        let count = comparison.counts.get(&class).copied().unwrap_or_default();
+        writeln!(
+            text,
+            "{}: {} compared, {} left out",
+            class.name(),
+            count.values,
+            count.left_out
+        )
+        .expect("memory can be written");
+    }
+    text
 }

@@ -2,13 +2,14 @@
 
 mod common;
 use common::{last, play};
-use plain::script::answers_to;
+use plain::Engine;
+use script::{MOST_LINE, answers_to};
 
 #[test]
 fn lines_that_are_passed_over() {
     assert_eq!(play(""), "");
     assert_eq!(play("\n\n   \n#\n# new\n#unreadable\n"), "");
-    let long = " ".repeat(40_000);
+    let long = " ".repeat(MOST_LINE + 1);
     assert_eq!(play(&format!("{long}\n#{long}x\n")), "");
     assert_eq!(play(" # new\n"), "unreadable\n");
 }
@@ -35,18 +36,22 @@ fn spaces_part_words_and_nothing_else_does() {
     ] {
         assert_eq!(play(&format!("{line}\n")), "unreadable\n", "{line:?}");
     }
-    assert_eq!(answers_to(b"full\xFF\n\xFF\nfull\n"), b"unreadable\nunreadable\nok\n");
+    assert_eq!(
+        answers_to(Engine::default(), b"full\xFF\n\xFF\nfull\n"),
+        b"unreadable\nunreadable\nok\n"
+    );
 }
 
 #[test]
 fn the_longest_line() {
     let padded = |length: usize| format!("full{}\n", " ".repeat(length - 4));
-    assert_eq!(play(&padded(32_768)), "ok\n");
-    assert_eq!(play(&padded(32_769)), "unreadable\n");
-    assert_eq!(play(&format!("{}full\n", " ".repeat(32_764))), "ok\n");
-    assert_eq!(play(&format!("{}full\n", " ".repeat(32_765))), "unreadable\n");
-    assert_eq!(play(&format!("rot {}1", "0".repeat(32_763))).lines().next(), Some("ok"));
-    assert_eq!(play(&format!("rot {}1", "0".repeat(32_764))), "unreadable\n");
+    assert_eq!(play(&padded(MOST_LINE)), "ok\n");
+    assert_eq!(play(&padded(MOST_LINE + 1)), "unreadable\n");
+    assert_eq!(play(&format!("{}full\n", " ".repeat(MOST_LINE - 4))), "ok\n");
+    assert_eq!(play(&format!("{}full\n", " ".repeat(MOST_LINE - 3))), "unreadable\n");
+    let zeros = |count: usize| play(&format!("rot {}1", "0".repeat(count)));
+    assert_eq!(zeros(MOST_LINE - 5).lines().next(), Some("ok"));
+    assert_eq!(zeros(MOST_LINE - 4), "unreadable\n");
 }
 
 #[test]

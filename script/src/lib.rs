@@ -21,7 +21,7 @@ pub use command::{Command, Line, NAMES, Poke, read};
 pub use engine::{Answer, Engine, No};
 pub use lines::Lines;
 pub use run::{answers_to, run};
-pub use session::Session;
+pub use session::{Session, write_row};
 pub use terms::{
     ConstraintRow, Coupling, Kept, Limit, LinkState, MaskCounts, NewCoupling, NewLink, Pose, Role, RootType, RowName,
     Split,

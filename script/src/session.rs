@@ -266,7 +266,8 @@ impl<E: Engine> Session<E> {
     }
 }
 
-fn write_row(lines: &mut Lines, row: &ConstraintRow, [j, wj]: [&[f32]; 2]) {
+/// A constraint row, behind its name.
+pub fn write_row(lines: &mut Lines, row: &ConstraintRow, [j, wj]: [&[f32]; 2]) {
     lines.word("bounds").floats(&row.bounds).word("rhs").float(row.rhs);
     lines.word("cfm_gain").float(row.cfm_gain);
     lines.word("inv_lhs").float(row.inv_lhs);

@@ -92,7 +92,7 @@ impl Maker {
     /// What is there, now and then; a large arm more rarely.
     pub fn look(&mut self) {
         let is_large = self.shape.links.len() * self.shape.dofs() > LINKS * LINKS;
-        if is_large && !self.hand.rng.one_in(3) {
+        if is_large && !self.hand.rng.one_in(4) {
             return;
         }
         match self.hand.rng.below(8) {

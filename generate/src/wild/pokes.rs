@@ -7,6 +7,8 @@ use plain::masks::ANGLE;
 use script::limits::{AXES, BLOCK, COUPLINGS, DOFS, LENT, LINKS, TABLES};
 use script::{Command, Poke, RowName, Split};
 
+type PokeMask = fn(usize, u8) -> Poke;
+
 impl Author {
     /// Break or change something, call the arm, and mostly take it back.
     pub fn poke_round(&mut self) {
@@ -191,7 +193,7 @@ impl Author {
     fn poke_mask(&mut self, link: usize) -> (Poke, Poke) {
         let joint = &self.session.engine.arm.links[link].joint;
         let rng = &mut self.hand.rng;
-        let masks: [(fn(usize, u8) -> Poke, u8); 3] = [
+        let masks: [(PokeMask, u8); 3] = [
             (Poke::Locked, joint.locked),
             (Poke::Limit, joint.limit),
             (Poke::Motor, joint.motor),

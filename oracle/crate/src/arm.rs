@@ -357,12 +357,11 @@ impl Arm {
         self.forget_factors();
     }
 
-    /// A new arm under the mass matrix lent before.
-    pub fn emptied(&mut self) {
-        *self = Self {
-            mass: std::mem::take(&mut self.mass),
-            ..Self::new(self.root_shifts_by_01)
-        };
+    /// The mass matrix that the next solves take; its factors stay where it is the one from before.
+    pub fn lend_mass(&mut self, mass: &[Real]) {
+        if self.mass != mass {
+            self.set_mass(mass.to_vec());
+        }
     }
 
     /// Has the crate factor a matrix over the DoFs that aren't driven: all of them, but for T-14.

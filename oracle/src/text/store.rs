@@ -1,19 +1,19 @@
-//! The list that crates/stored plays: scripts, with the answer that is expected behind each command.
+//! Makes the stored list: scripts, with the answer that is expected behind each command.
 //!
-//! No answer comes from the library: values are the crate's, refusals the generator's. Of a command that may overflow, the crate's own results say
-//! whether it is clear of that; it is left out where it isn't.
-use crate::compare::{Class, Rule, classes, float, masked};
-use crate::differ::Expected;
-use crate::generate::{self, Family};
-use crate::oracle::Session;
-use crate::script::lines;
-use plain::script::{Command, Line, read};
-use std::collections::BTreeMap;
-use std::fmt::Write;
-use std::path::Path;
+//! No answer comes from the library: values are the crate's, its root's shifts given by 01; refusals are the generator's. Of a command that may
+//! overflow, the crate's own results say whether it is clear of that; it is left out where it isn't.
 
-/// Before a line of an answer: to the script it is a comment.
-const ANSWER: &str = "#= ";
+use super::session::Session;
+use crate::answers::is_status;
+use crate::class::{Class, float, places};
+use crate::expected::Expected as Word;
+use crate::report::counts;
+use crate::stored::{ANSWER, compare, right_output};
+use generate::families::{self, Expected, Family};
+use script::{Command, Line, read};
+use std::fmt::Write;
+use std::io;
+use std::path::Path;
 
 /// Scripts from one seed.
 struct Choice {
@@ -94,40 +94,44 @@ const LAST_BITS: f32 = 0.000_01;
 /// The least pivot of a matrix that is clear of being singular.
 const LEAST_PIVOT: f64 = 0.001;
 
-/// What the program reads and what it must print, by the names of their files.
-pub fn files(marked_examples: &str) -> BTreeMap<&'static str, String> {
-    let mut list = with_answers(marked_examples, &WHOLE);
+/// A file's ending and its text.
+pub type File = (&'static str, String);
+
+/// The list, which begins with these scripts, and its counts.
+pub fn files(first: &[&str]) -> [File; 2] {
+    let mut list: String = first.iter().map(|script| with_answers(script, &WHOLE)).collect();
     for choice in &CHOICES {
-        let scripts = (0..).map(|number| generate::script(choice.seed, number, Some(choice.family)));
+        let scripts = (0..).map(|number| families::script(choice.seed, number, Some(choice.family)));
         let chosen = scripts
             .filter(|script| script.matches("\nlink ").count() >= choice.links)
             .map(|script| with_answers(&script, &choice.size));
         list.extend(chosen.take(choice.scripts));
     }
-    let counts = counts(&list);
-    BTreeMap::from([("stdin", list), ("stdout", counts)])
+    let counts = counts(&compare(&list, &right_output(&list)));
+    [("script", list), ("counts", counts)]
 }
 
-pub fn write(files: &BTreeMap<&str, String>, folder: &Path) {
-    for (name, text) in files {
-        std::fs::write(folder.join(name), text).unwrap();
-    }
+/// Writes the files beside each other.
+///
+/// # Errors
+/// They can't be written.
+pub fn write(files: &[File], path: &Path) -> io::Result<()> {
+    files
+        .iter()
+        .try_for_each(|(ending, text)| std::fs::write(path.with_extension(ending), text))
 }
 
-/// Whether the files stand in a folder, but for the last bits of sines and cosines, which are the machine's.
-pub fn stands_in(files: &BTreeMap<&str, String>, folder: &Path) -> bool {
-    files.iter().all(|(name, text)| {
-        let found = std::fs::read_to_string(folder.join(name)).unwrap_or_default();
-        let (ours, theirs) = (
-            text.split_inclusive([' ', '\n', '/']),
-            found.split_inclusive([' ', '\n', '/']),
-        );
+/// Whether the files stand there, but for the last bits of sines and cosines, which are the machine's.
+pub fn stands_in(files: &[File], path: &Path) -> bool {
+    files.iter().all(|(ending, text)| {
+        let found = std::fs::read_to_string(path.with_extension(ending)).unwrap_or_default();
+        let [ours, theirs] = [text, &found].map(|text| text.split_inclusive([' ', '\n', '/']));
         ours.clone().count() == theirs.clone().count() && ours.zip(theirs).all(|(word, other)| is_alike(word, other))
     })
 }
 
 fn is_alike(word: &str, other: &str) -> bool {
-    let value = |word: &str| float(word.trim_start_matches('x').trim_end_matches([' ', '\n', '/']));
+    let value = |word: &str| float(word.trim_end_matches([' ', '\n', '/']));
     word == other
         || match (value(word), value(other)) {
             (Some(x), Some(y)) => (x - y).abs() <= LAST_BITS * x.abs().max(1.0),
@@ -138,30 +142,24 @@ fn is_alike(word: &str, other: &str) -> bool {
 /// A script with its answers, as comments.
 fn with_answers(script: &str, size: &Size) -> String {
     let mut teller = Teller {
-        session: Session::new(false, false),
-        inside: true,
+        session: Session::new(true),
         mass: Some(vec![]),
         size,
         since: [size.apart; 2],
     };
     let (mut out, mut expected) = (String::new(), Expected::Accepted);
-    for line in lines(script.as_bytes()) {
-        let text = String::from_utf8_lossy(line);
-        match read(line) {
-            Line::Nothing => match Expected::of_comment(&text) {
+    for line in script.lines() {
+        match read(line.as_bytes()) {
+            Line::Nothing => match Expected::of_comment(line) {
                 Some(said) => expected = said,
-                None => {
-                    let family = Family::of_comment(&text);
-                    teller.inside = family.map_or(teller.inside, |family| family != Family::Outside);
-                    writeln!(out, "{text}").unwrap();
-                }
+                None => out += &format!("{line}\n"),
             },
-            Line::Unreadable => unreachable!("the generator writes what can be read: {text}"),
+            Line::Unreadable => unreachable!("the generator writes what can be read: {line}"),
             Line::Command(command) => {
                 let said = std::mem::replace(&mut expected, Expected::Accepted);
-                if let Some(answer) = teller.answer(&text, &command, said) {
-                    writeln!(out, "{text}").unwrap();
-                    answer.lines().for_each(|line| writeln!(out, "{ANSWER}{line}").unwrap());
+                if let Some(answer) = teller.answer(line, &command, said) {
+                    out += &format!("{line}\n");
+                    answer.lines().for_each(|line| out += &format!("{ANSWER}{line}\n"));
                 }
             }
         }
@@ -175,8 +173,6 @@ fn with_answers(script: &str, size: &Size) -> String {
 /// What is expected of one command after another.
 struct Teller<'a> {
     session: Session,
-    /// Whether the values lie inside 01's domain.
-    inside: bool,
     /// The mass matrix; none where it was left out.
     mass: Option<Vec<f32>>,
     size: &'a Size,
@@ -186,9 +182,9 @@ struct Teller<'a> {
 
 impl Teller<'_> {
     /// The expected answer; none where the command is left out.
-    fn answer(&mut self, text: &str, command: &Command, expected: Expected) -> Option<String> {
+    fn answer(&mut self, line: &str, command: &Command, expected: Expected) -> Option<String> {
         if let Command::Mass { matrix } = command {
-            self.mass = (text.len() <= self.size.command).then(|| matrix.clone());
+            self.mass = (line.len() <= self.size.command).then(|| matrix.clone());
         }
         if needs_mass(command) && self.mass.is_none() || !self.is_due(command) {
             return None;
@@ -197,28 +193,49 @@ impl Teller<'_> {
             return Some(format!("refused {refusal}\n"));
         }
         let before = self.session.clone();
-        let (answer, facts) = self.session.answer(command);
+        let answer = self.session.answer(command);
         if expected == Expected::Either && !self.is_clear(command, &answer) {
             self.session = before;
             return None;
         }
         let answer = match (command, answer.lines().next()) {
-            (_, Some("ok")) => masked(&answer, self.inside, &facts),
+            (_, Some("ok")) => self.with_sizes(&answer),
             // 01 alone says what these give.
             (Command::Check, _) => "ok\ncheck spare 0 past 0\n".into(),
             (Command::Poke(_), Some("unasked")) => "ok\n".into(),
-            _ => panic!("the crate can't answer {text}: {answer}"),
+            _ => panic!("the crate can't answer {line}: {answer}"),
         };
         // Only what changes nothing has more than its status.
         (answer.len() <= self.size.command).then_some(answer)
     }
 
+    /// The crate's answer as it is stored.
+    fn with_sizes(&self, answer: &str) -> String {
+        let facts = self.session.facts();
+        let mut out = String::new();
+        for line in answer.lines() {
+            let words: Vec<Word> = match is_status(line) {
+                true => vec![Word::Word(line)],
+                false => facts.expected(line).map(|(_, word)| word).collect(),
+            };
+            for (at, word) in words.iter().enumerate() {
+                let space = if at > 0 { " " } else { "" };
+                write!(out, "{space}{word}").expect("memory can be written");
+            }
+            out.push('\n');
+        }
+        out
+    }
+
     /// Whether a look comes late enough after the one before.
     fn is_due(&mut self, command: &Command) -> bool {
         let looks = [matches!(command, Command::Dump), matches!(command, Command::Kin)];
-        let due = (0..2).all(|at| !looks[at] || self.since[at] >= self.size.apart);
-        for at in 0..2 {
-            self.since[at] = if looks[at] && due { 0 } else { self.since[at] + 1 };
+        let due = looks
+            .iter()
+            .zip(self.since)
+            .all(|(look, since)| !look || since >= self.size.apart);
+        for (since, look) in self.since.iter_mut().zip(looks) {
+            *since = if look && due { 0 } else { *since + 1 };
         }
         due
     }
@@ -226,7 +243,7 @@ impl Teller<'_> {
     /// Whether a command is clear of being refused.
     fn is_clear(&mut self, command: &Command, answer: &str) -> bool {
         let regular = !needs_mass(command) || self.mass.as_deref().is_some_and(is_regular);
-        let kept = [Command::Dump, Command::Kin].map(|look| self.session.answer(&look).0);
+        let kept = [Command::Dump, Command::Kin].map(|look| self.session.answer(&look));
         regular && is_moderate(answer) && kept.iter().all(|look| is_moderate(look))
     }
 }
@@ -241,28 +258,26 @@ fn needs_mass(command: &Command) -> bool {
 }
 
 fn is_moderate(answer: &str) -> bool {
-    answer.lines().all(|line| {
-        let words = line.split(' ').zip(classes(line));
-        words
-            .filter(|(_, class)| *class != Class::LimitBounds)
-            .all(|(word, class)| match float(word) {
-                Some(value) if class == Class::AngleCoordinates => value.abs() <= LARGEST_ANGLE,
-                Some(value) => value.abs() <= LARGEST,
-                None => true,
-            })
-    })
+    answer
+        .lines()
+        .flat_map(places)
+        .all(|(word, place)| match (place.class, float(word)) {
+            (Class::LimitBounds, _) | (_, None) => true,
+            (Class::AngleCoordinates, Some(value)) => value.abs() <= LARGEST_ANGLE,
+            (_, Some(value)) => value.abs() <= LARGEST,
+        })
 }
 
 fn is_regular(matrix: &[f32]) -> bool {
     let n = matrix.len().isqrt();
     let mut rows: Vec<Vec<f64>> = matrix
         .chunks(n.max(1))
-        .map(|row| row.iter().map(|x| *x as f64).collect())
+        .map(|row| row.iter().map(|x| f64::from(*x)).collect())
         .collect();
     (0..n).all(|column| {
         let size = |row: &Vec<f64>| row[column].abs();
         let pivot = (column..n).max_by(|a, b| size(&rows[*a]).total_cmp(&size(&rows[*b])));
-        rows.swap(column, pivot.unwrap());
+        rows.swap(column, pivot.unwrap_or(column));
         let pivot = rows[column].clone();
         for row in &mut rows[column + 1..] {
             let factor = row[column] / pivot[column];
@@ -270,52 +285,4 @@ fn is_regular(matrix: &[f32]) -> bool {
         }
         size(&pivot) > LEAST_PIVOT
     })
-}
-
-/// How many words of a class are compared exactly, how many within a tolerance, and how many are left out.
-#[derive(Clone, Copy, Default)]
-struct Words {
-    exact: u64,
-    within: u64,
-    left_out: u64,
-}
-
-/// What the program must print of a list.
-fn counts(text: &str) -> String {
-    let mut counts: BTreeMap<Class, Words> = BTreeMap::new();
-    let (mut commands, mut total) = (0, Words::default());
-    for line in text.lines().filter_map(|line| line.strip_prefix(ANSWER)) {
-        let status = line == "ok" || line.starts_with("refused ");
-        commands += status as u64;
-        for (word, class) in line.split(' ').zip(classes(line)) {
-            let class = if status { Class::Refusals } else { class };
-            let value = float(word.split('/').next().unwrap()).is_some();
-            for count in [counts.entry(class).or_default(), &mut total] {
-                match (class.rule(), word) {
-                    (Rule::Exact, _) => count.exact += 1,
-                    (_, "-") => count.left_out += 1,
-                    _ if value => count.within += 1,
-                    _ => count.exact += 1,
-                }
-            }
-        }
-    }
-    let mut out = format!("{commands} commands\n");
-    let shown = Class::ALL.map(|class| (class.name(), counts.get(&class).copied().unwrap_or_default()));
-    for (
-        name,
-        Words {
-            exact,
-            within,
-            left_out,
-        },
-    ) in shown.into_iter().chain([("all", total)])
-    {
-        writeln!(
-            out,
-            "{name}: {exact} exact, {within} within, {left_out} left out, 0 differ"
-        )
-        .unwrap();
-    }
-    out
 }
