@@ -1,16 +1,16 @@
 // What the Rust plug-in calls: splits and counts as C functions over numbers and byte slices.
 // Each returns a count, or a refusal's number below zero: -4 for refusal 4. A refusal writes nothing.
 ghost use mathlib.Core.Path.{_≡_};
-ghost use mathlib.Core.List.{_++_};
-ghost use Prim.Native.Nat.{_+_, _*_, _≤_};
-ghost use lib.ListN.{length, take, drop};
-ghost use lib.Ieee.{binary32, toBits};
+ghost use Prim.Native.Nat.{_*_, _≤_};
+ghost use lib.ListN.{length};
 ghost use Rattle.topology.specs.declared.Split.the-variants.{Delete, Cut};
 ghost use Rattle.topology.specs.Answers.{splitAnswer};
 ghost use Rattle.masks.specs.Answers.{laid, dofsAnswer, startsAnswer, constraintsAnswer};
 ghost use Rattle.plugin.specs.Returns.{out, told, countTold, splitTold, filledTold};
-ghost use Rattle.plugin.specs.Bytes.{littleEndian, bytesOf, dampingBytes};
+ghost use Rattle.plugin.specs.Bytes.{bytesOf, dampingBytes};
 use limits::fewer;
+use numerals::bits_of;
+use numerals::write_u32;
 use topology::Split;
 
 // The count, or the refusal below zero.
@@ -75,27 +75,6 @@ pub extern "C" fn giellavor_num_velocity_constraints(locked: u32, limit: u32, mo
     tell(answer.refusal, answer.count)
 }
 
-// The bits of a float. A NaN has many patterns; the one told is the quiet one of no sign.
-fn bits(x: f32) -> u32
-    ensures { λ r. ⌜ r ≡ toBits binary32 x ⌝ }
-{
-    if x == x {
-        return f32::to_bits(x);
-    }
-    0x7FC0_0000
-}
-
-// Writes the four bytes of a number at a place.
-fn write_bits(b: u32, bytes: &mut [u8], at: usize)
-    requires { ⌜ at + 4 ≤ length (now bytes) ⌝ }
-    ensures { λ _. ⌜ now (bytes .exit) ≡ take at (now (bytes .entry)) ++ littleEndian b ++ drop (at + 4) (now (bytes .entry)) ⌝ }
-{
-    bytes[at] = (b % 256) as u8;
-    bytes[at + 1] = (b / 256 % 256) as u8;
-    bytes[at + 2] = (b / 65536 % 256) as u8;
-    bytes[at + 3] = (b / 16777216 % 256) as u8;
-}
-
 // Writes the bytes of a row of floats over the front of `bytes`.
 fn write_row(row: &[f32], bytes: &mut [u8])
     requires { ⌜ 4 * length (now row) ≤ length (now bytes) ⌝ }
@@ -103,7 +82,7 @@ fn write_row(row: &[f32], bytes: &mut [u8])
 {
     let mut i = 0;
     while i < row.len() {
-        write_bits(bits(row[i]), bytes, 4 * i);
+        write_u32(bytes, 4 * i, bits_of(row[i]));
         i += 1;
     }
 }

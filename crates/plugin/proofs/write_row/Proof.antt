@@ -16,20 +16,20 @@ abbrev μ-loop : tie.MeasureT-loop
 loop-holds : tie.Need-loop-holds Inv-loop μ-loop
 loop-holds c = (omega arith, written-none (c .before .before .args .row .now) (c .before .before .args .bytes .now))
 
-mul-bits : tie.Need-mul-bits Inv-loop μ-loop
-mul-bits c = search needs
+mul-write-u32 : tie.Need-mul-write-u32 Inv-loop μ-loop
+mul-write-u32 c = search needs
 
-shared-slice-read-bits : tie.Need-shared-slice-read-bits Inv-loop μ-loop
-shared-slice-read-bits c = search needs
+mul-bits-of : tie.Need-mul-bits-of Inv-loop μ-loop
+mul-bits-of c = search needs
 
-bits-requires : tie.Need-bits-requires Inv-loop μ-loop
-bits-requires c κs = search needs
+shared-slice-read-bits-of : tie.Need-shared-slice-read-bits-of Inv-loop μ-loop
+shared-slice-read-bits-of c = search needs
 
-mul-write-bits : tie.Need-mul-write-bits Inv-loop μ-loop
-mul-write-bits c = search needs
+bits-of-requires : tie.Need-bits-of-requires Inv-loop μ-loop
+bits-of-requires c κs = search needs
 
-write-bits-requires : tie.Need-write-bits-requires Inv-loop μ-loop
-write-bits-requires c κs = omega (arith, c .before .before .before .before .loop .inv .1 .same-length)
+write-u32-requires : tie.Need-write-u32-requires Inv-loop μ-loop
+write-u32-requires c κs = search needs
 
 add-i : tie.Need-add-i Inv-loop μ-loop
 add-i c = search needs
@@ -39,10 +39,12 @@ loop-less c = search needs
 
 loop-again : tie.Need-loop-again Inv-loop μ-loop
 loop-again c =
-    let start = c .before .before .before .before .before .before .before .before .before .before in
-    let at = c .before .before .before .before .before .before .before .loop in
-    let bits = c .before .before .before .before .bits in
-    (omega arith, written-more (start .args .row .now) (start .args .bytes .now) (at .i) (at .bytes) (at .inv .1) (c .before .before .before .before .before .before .loop-test .taken) (bits .result) _ (bits .ensures) (c .before .bytes .given) (c .before .before .write-bits .ensures))
+    let written = c .before .before in
+    let at = written .before .before .before .before .before in
+    let a = at .before .before .before .args in
+    let bits = written .before .bits-of in
+    let h = at .loop .inv .1 .same-length in
+    (omega arith, written-more (a .row .now) (a .bytes .now) (at .loop .i) (at .loop .bytes) (at .loop .inv .1) (written .before .before .before .before .loop-test .taken) (bits .result) (written .write-u32 .result) _ (bits .ensures) (c .before .bytes .given) (omega arith) (written .write-u32 .ensures))
 
 same-length : tie.Need-same-length Inv-loop μ-loop
 same-length c = c .before .loop .inv .1 .same-length
@@ -57,11 +59,11 @@ write-row-spec =
     Inv-loop
     μ-loop
     loop-holds
-    mul-bits
-    shared-slice-read-bits
-    bits-requires
-    mul-write-bits
-    write-bits-requires
+    mul-write-u32
+    mul-bits-of
+    shared-slice-read-bits-of
+    bits-of-requires
+    write-u32-requires
     add-i
     loop-less
     loop-again

@@ -1,2 +1,0 @@
-pub mod LineWords
-pub mod Tables

@@ -1,0 +1,4 @@
+pub mod Storing
+pub mod Digits
+pub mod Bytes
+pub mod Bits

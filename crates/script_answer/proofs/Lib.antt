@@ -1,4 +1,0 @@
-pub mod Behind
-pub mod Examples
-pub mod Turns
-pub mod Whole

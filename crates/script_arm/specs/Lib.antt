@@ -1,3 +1,0 @@
-pub mod Dump
-pub mod Kept
-pub mod Check

@@ -1,4 +1,0 @@
-pub mod Shapes
-pub mod Arguments
-pub mod Fits
-pub mod Orders

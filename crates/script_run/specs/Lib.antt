@@ -1,5 +1,0 @@
-pub mod Played
-pub mod Begun
-pub mod Run
-pub mod Told
-pub mod Pieces

@@ -1,3 +1,0 @@
-pub mod Stores
-pub mod Past
-pub mod Parts

@@ -1,4 +1,0 @@
-pub mod Pokes
-pub mod Lent
-pub mod Edits
-pub mod Replies

@@ -1,4 +1,0 @@
-pub mod Flags
-pub mod Runs
-pub mod Equal
-pub mod Pieces
