@@ -4,6 +4,8 @@
 const INSIDE: f64 = 20.0;
 /// Larger than that, f32 can't tell a matrix from a singular one.
 const MOST: f64 = 1.0e6;
+/// A divisor is at least twice the thousandth that it may stray by, so its reciprocal strays by twice as much as by the first order.
+const FAR_FROM_ZERO: f64 = 500.0;
 
 /// What a share is taken of, for a solution and for what is multiplied by the inverse.
 #[derive(Clone, Copy, Debug, PartialEq)]
@@ -12,12 +14,15 @@ pub struct Conditioning {
     pub solution: f64,
     /// The largest row sum of the inverse: at most 1 inside the domain.
     pub inverse: f64,
+    /// The solution's own, be it below 1; none inside the domain, where a divisor made of it is far from zero.
+    pub least: Option<f64>,
 }
 
 impl Conditioning {
     pub const INSIDE: Conditioning = Conditioning {
         solution: 1.0,
         inverse: 1.0,
+        least: None,
     };
 
     /// Of a matrix in rows and a solution; `None` where the matrix is too near to a singular one. `given_inside` says that what the right sides are
@@ -39,10 +44,25 @@ impl Conditioning {
         let strayed = row_sums(&|row, column| inverse[row * n + column].abs() * sizes[column]);
         let inverse = largest(&row_sums(&|row, column| inverse[row * n + column].abs()));
         let condition = inverse * largest(&row_sums(&|row, column| f64::from(matrix[row * n + column]).abs()));
+        let least = largest(&strayed) / INSIDE;
         (condition <= MOST).then(|| Conditioning {
-            solution: (largest(&strayed) / INSIDE).max(1.0),
+            solution: least.max(1.0),
             inverse: inverse.max(1.0),
+            least: Some(least),
         })
+    }
+
+    /// Of the reciprocal of lhs·(1 + cfm_coeff), lhs being an entry of the solution; `None` where rounding alone may have made it.
+    pub fn reciprocal(&self, value: f32, cfm_coeff: f32) -> Option<f64> {
+        let Some(least) = self.least else {
+            return Some(1.0);
+        };
+        // The two cancel.
+        if cfm_coeff == -1.0 {
+            return Some(1.0);
+        }
+        let (value, stray) = (f64::from(value).abs(), least * (1.0 + f64::from(cfm_coeff).abs()));
+        (value > 0.0 && value * stray <= FAR_FROM_ZERO).then(|| (2.0 * value * value * stray).max(1.0))
     }
 }
 

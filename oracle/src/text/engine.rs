@@ -65,22 +65,13 @@ impl Engine {
     /// The sizes of a row's values, given its right side inside the domain.
     fn row_sizes(&self, mass: &[f32], row: &RowConstraint, cfm_coeff: f32) -> Sizes {
         let conditioning = Conditioning::of(mass, &row.wj, true);
-        let gain = conditioning.map(|c| c.solution * f64::from(cfm_coeff.abs()).max(1.0));
-        let inv_lhs = gain.and_then(|gain| inverse_size(f64::from(row.inv_lhs.abs()), gain));
+        let gain = |c: Conditioning| c.solution * f64::from(cfm_coeff.abs()).max(1.0);
         Sizes {
             solution: conditioning.map(|c| c.solution),
-            gain,
-            inv_lhs,
+            gain: conditioning.map(gain),
+            inv_lhs: conditioning.and_then(|c| c.reciprocal(row.inv_lhs, cfm_coeff)),
             ..Sizes::default()
         }
-    }
-}
-
-/// What a share of a reciprocal is taken of, where one of size `of` is taken of its divisor.
-fn inverse_size(inverse: f64, of: f64) -> Option<f64> {
-    match of <= 1.0 {
-        true => Some(1.0),
-        false => (inverse * of <= 100.0).then(|| (2.0 * inverse * inverse * of).max(1.0)),
     }
 }
 
