@@ -1,4 +1,25 @@
-//! The words of a command line.
+//! The words of a command line, and what becomes of them.
+
+use std::process::ExitCode;
+
+/// What a command came to: whether nothing differs. `None` where its words can't be read.
+pub type Outcome = Option<Result<bool, String>>;
+
+/// How a program ends.
+pub fn concluded(outcome: Outcome, usage: &str) -> ExitCode {
+    match outcome {
+        Some(Ok(true)) => ExitCode::SUCCESS,
+        Some(Ok(false)) => ExitCode::FAILURE,
+        Some(Err(error)) => {
+            eprintln!("{error}");
+            ExitCode::FAILURE
+        }
+        None => {
+            eprintln!("{usage}");
+            ExitCode::from(2)
+        }
+    }
+}
 
 /// `--name value`, `--flag`, and plain words.
 pub struct Arguments(Vec<String>);

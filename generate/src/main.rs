@@ -1,6 +1,6 @@
 //! Scripts made up by a seed, written or answered by a program and by the plain reading.
 
-use generate::arguments::Arguments;
+use generate::arguments::{Arguments, Outcome, concluded};
 use generate::compare::{Task, compare};
 use generate::families::{self, Family};
 use generate::wild;
@@ -15,22 +15,10 @@ generate compare PROGRAM SEED COUNT [--from K] [--sound] [--jobs J]
     wild scripts, answered by PROGRAM and by the plain reading";
 
 fn main() -> ExitCode {
-    let Some(done) = run(&mut Arguments::of_program()) else {
-        eprintln!("{USAGE}");
-        return ExitCode::from(2);
-    };
-    match done {
-        Ok(true) => ExitCode::SUCCESS,
-        Ok(false) => ExitCode::FAILURE,
-        Err(error) => {
-            eprintln!("generate: {error}");
-            ExitCode::FAILURE
-        }
-    }
+    concluded(run(&mut Arguments::of_program()), USAGE)
 }
 
-/// Whether nothing differs; `None` where the command line can't be read.
-fn run(arguments: &mut Arguments) -> Option<io::Result<bool>> {
+fn run(arguments: &mut Arguments) -> Outcome {
     let sound = arguments.flag("--sound");
     let (from, jobs) = (arguments.number("--from", 0)?, arguments.number("--jobs", 1)? as usize);
     let family = arguments.option("--family", None, |letter| Some(Some(Family::of_letter(letter)?)))?;
@@ -42,7 +30,7 @@ fn run(arguments: &mut Arguments) -> Option<io::Result<bool>> {
     let [seed, count] = [arguments.plain()?.parse().ok()?, arguments.plain()?.parse().ok()?];
     arguments.all_read()?;
     let numbers = from..from.checked_add(count)?;
-    Some(match command.as_str() {
+    let done = match command.as_str() {
         "wild" => write(numbers.map(|number| wild::script(seed, number, sound).text)),
         "families" => write(numbers.map(|number| families::script(seed, number, family).into_bytes())),
         "compare" => {
@@ -56,7 +44,8 @@ fn run(arguments: &mut Arguments) -> Option<io::Result<bool>> {
             compare(&task, io::stdout())
         }
         _ => return None,
-    })
+    };
+    Some(done.map_err(|error| error.to_string()))
 }
 
 /// Writes scripts, one after the other.

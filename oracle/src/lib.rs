@@ -16,6 +16,3 @@ pub mod selftest;
 
 #[cfg(feature = "text")]
 pub mod text;
-
-/// What a command came to: whether nothing differs. `None` where its words can't be read.
-pub type Outcome = Option<Result<bool, String>>;

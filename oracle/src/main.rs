@@ -1,7 +1,7 @@
 //! Answers of a program compared with those of rapier2d's own multibody_joint files, or with the stored ones.
 
-use generate::arguments::Arguments;
-use oracle::{Outcome, files, report, selftest, stored};
+use generate::arguments::{Arguments, Outcome, concluded};
+use oracle::{files, report, selftest, stored};
 use std::process::ExitCode;
 
 const USAGE: &str = "usage:
@@ -25,18 +25,7 @@ fn main() -> ExitCode {
         "selftest" => Some(files::read(files::stored().with_extension("script")).map(|list| selftest::run(&list))),
         other => run_with_text(other, &mut arguments),
     };
-    match outcome {
-        Some(Ok(true)) => ExitCode::SUCCESS,
-        Some(Ok(false)) => ExitCode::FAILURE,
-        Some(Err(error)) => {
-            eprintln!("oracle: {error}");
-            ExitCode::FAILURE
-        }
-        None => {
-            eprintln!("{USAGE}");
-            ExitCode::from(2)
-        }
-    }
+    concluded(outcome, USAGE)
 }
 
 #[cfg(feature = "text")]

@@ -4,7 +4,8 @@ use crate::floats::{finite, flags, none_set};
 use crate::joint::Joint;
 use crate::limits::{COUPLINGS, DOFS, LINKS};
 use crate::masks::{ALL, ANGLE, dofs_below, is_axis, is_free, is_mask};
-use crate::pose::{Point, Pose};
+use crate::point::Point;
+use crate::pose::Pose;
 use crate::refusal::{Answer, Refusal, Refusal::*};
 use crate::rotation::is_wound;
 

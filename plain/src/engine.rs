@@ -3,7 +3,8 @@
 use crate::arm::{Arm, RowName};
 use crate::limits::{AXES, DOFS, LENT, PAST, TABLES};
 use crate::masks;
-use crate::pose::{Point, Pose};
+use crate::point::Point;
+use crate::pose::Pose;
 use crate::refusal::Refusal;
 use crate::root::RootType;
 use crate::rotation::Rotation;

@@ -3,7 +3,8 @@
 use crate::floats::flags;
 use crate::limits::AXES;
 use crate::masks::{self, ALL, ANGLE, free_axes, is_free};
-use crate::pose::{Point, Pose};
+use crate::point::Point;
+use crate::pose::Pose;
 use crate::rotation::Rotation;
 
 #[derive(Clone, Copy, Debug, PartialEq)]

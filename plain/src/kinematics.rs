@@ -4,7 +4,7 @@ use crate::arm::{Kept, Link};
 use crate::floats::{finite, none_set};
 use crate::limits::{AXES, BLOCK, DOFS, LINKS, TABLES};
 use crate::masks::free_axes;
-use crate::pose::Point;
+use crate::point::Point;
 use crate::refusal::{Answer, Refusal::*};
 use crate::rotation::Rotation;
 

@@ -9,6 +9,8 @@ pub mod limits;
 pub mod refusal;
 
 pub mod masks;
+
+pub mod point;
 pub mod rotation;
 
 pub mod pose;
@@ -34,6 +36,7 @@ mod engine;
 pub use arm::{Arm, Coupling, Link, RowName};
 pub use engine::Engine;
 pub use joint::Joint;
-pub use pose::{Point, Pose};
+pub use point::Point;
+pub use pose::Pose;
 pub use refusal::{Answer, Refusal};
 pub use rotation::Rotation;

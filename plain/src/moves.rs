@@ -6,7 +6,8 @@ use crate::joint::Joint;
 use crate::kinematics::{Block, Working, block_of, blocks_of, full_working};
 use crate::limits::{LINKS, TABLES};
 use crate::masks::{ANGLE, is_axis, is_free};
-use crate::pose::{Point, Pose};
+use crate::point::Point;
+use crate::pose::Pose;
 use crate::refusal::{Answer, Refusal, Refusal::*};
 use crate::rotation::is_wound;
 

@@ -1,7 +1,7 @@
 //! Rotations: the cosine and the sine of an angle, from our own f32 operations.
 
 use crate::limits::MOST_ANGLE;
-use crate::pose::Point;
+use crate::point::Point;
 use crate::refusal::{Answer, Refusal::*};
 
 #[derive(Clone, Copy, Debug, PartialEq)]

@@ -6,7 +6,8 @@ use crate::joint::Joint;
 use crate::kinematics::{Working, block_of, blocks_of};
 use crate::limits::{AXES, COUPLINGS, LINKS, TABLES};
 use crate::masks::{self, is_axis, is_mask};
-use crate::pose::{Point, Pose};
+use crate::point::Point;
+use crate::pose::Pose;
 use crate::refusal::{Answer, Refusal::*};
 
 /// A link as a caller asks for it.
