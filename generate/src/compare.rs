@@ -1,12 +1,12 @@
 //! Made-up scripts, answered by another program and by the plain reading.
 
+use crate::batches::in_batches;
 use crate::wild::{self, Coverage, Script};
 use script::{Session, answers_to};
 use std::io::{self, Read, Write};
 use std::ops::Range;
 use std::process::{Command, ExitStatus, Stdio};
 use std::sync::Mutex;
-use std::sync::atomic::{AtomicU64, Ordering};
 
 /// Scripts that one run of the program is given.
 const BATCH: u64 = 50;
@@ -35,17 +35,13 @@ struct Outcome<W> {
 /// # Errors
 /// The program can't be run, or what is told can't be written.
 pub fn compare(task: &Task, told: impl Write + Send) -> io::Result<bool> {
-    let next = AtomicU64::new(task.numbers.start);
     let outcome = Mutex::new(Outcome {
         coverage: Coverage::default(),
         failed: 0,
         told,
     });
-    std::thread::scope(|scope| {
-        let jobs: Vec<_> = (0..task.jobs.max(1))
-            .map(|_| scope.spawn(|| run_batches(task, &next, &outcome)))
-            .collect();
-        jobs.into_iter().try_for_each(|job| job.join().expect("no panic"))
+    in_batches(&task.numbers, BATCH, task.jobs, |numbers| {
+        run_batch(task, numbers, &outcome)
     })?;
     let Outcome {
         coverage,
@@ -57,16 +53,6 @@ pub fn compare(task: &Task, told: impl Write + Send) -> io::Result<bool> {
     writeln!(told, "{} passed, {failed} failed", count - failed)?;
     told.flush()?;
     Ok(failed == 0)
-}
-
-fn run_batches<W: Write>(task: &Task, next: &AtomicU64, outcome: &Mutex<Outcome<W>>) -> io::Result<()> {
-    loop {
-        let first = next.fetch_add(BATCH, Ordering::Relaxed);
-        if first >= task.numbers.end {
-            return Ok(());
-        }
-        run_batch(task, first..task.numbers.end.min(first + BATCH), outcome)?;
-    }
 }
 
 fn run_batch<W: Write>(task: &Task, numbers: Range<u64>, outcome: &Mutex<Outcome<W>>) -> io::Result<()> {

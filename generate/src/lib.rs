@@ -15,6 +15,8 @@ pub mod spelling;
 pub mod families;
 pub mod wild;
 
+pub mod batches;
+
 pub mod compare;
 
 pub mod arguments;

@@ -139,6 +139,21 @@ impl Comparison {
         }
     }
 
+    /// Whether a program's answers end where those to a script do, and the program ends well.
+    pub fn end(&mut self, script: u64, no_more: bool, ended_well: bool) {
+        let asked = Asked {
+            script,
+            line: 0,
+            command: "the end of the answers",
+        };
+        for (held, what) in [
+            (no_more, "more answers than commands"),
+            (ended_well, "the program failed"),
+        ] {
+            self.judge(&asked, Class::Form, held, || what.to_string());
+        }
+    }
+
     /// All differences, the kept ones and the others.
     pub fn found(&self) -> u64 {
         self.counts.values().map(|count| count.differences).sum()

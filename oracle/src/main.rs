@@ -49,14 +49,11 @@ fn compare_stored(program: &str) -> Result<bool, String> {
     let list = files::read(files::stored().with_extension("script"))?;
     let counts = files::read(files::stored().with_extension("counts"))?;
     let (output, status) = generate::compare::run(program, list.as_bytes()).map_err(|error| error.to_string())?;
-    let comparison = stored::compare(&list, &String::from_utf8_lossy(&output));
+    let comparison = stored::compare(&list, &String::from_utf8_lossy(&output), status.success());
     report::print(&comparison);
     let counted = report::counts(&comparison) == counts;
     if !counted {
         println!("other counts than the stored ones");
     }
-    if !status.success() {
-        println!("{program} ended with {status}");
-    }
-    Ok(comparison.found() == 0 && counted && status.success())
+    Ok(comparison.found() == 0 && counted)
 }

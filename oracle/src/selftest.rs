@@ -22,7 +22,7 @@ fn every_class(list: &str) -> &str {
 pub fn run(list: &str) -> bool {
     let list = every_class(list);
     let right = stored::right_output(list);
-    let mut passed = report("nothing spoilt", None, &stored::compare(list, &right));
+    let mut passed = report("nothing spoilt", None, &stored::compare(list, &right, true));
     for class in Class::ALL {
         if matches!(class, Class::Refusals | Class::Tables) {
             continue;
@@ -31,7 +31,7 @@ pub fn run(list: &str) -> bool {
             Rule::Exact | Rule::Number => Spoil::Least,
             _ => Spoil::Share(1.25),
         };
-        let compared = |how| stored::compare(list, &spoilt(&right, class, how));
+        let compared = |how| stored::compare(list, &spoilt(&right, class, how), true);
         passed &= report(class.name(), Some(class), &compared(wrong));
         if let Spoil::Share(_) = wrong {
             passed &= report(class.name(), None, &compared(Spoil::Share(0.75)));
@@ -40,7 +40,7 @@ pub fn run(list: &str) -> bool {
     for (name, from, to, class) in REPLACED {
         assert!(right.contains(from), "{from}");
         let replaced = right.replacen(from, to, 1);
-        passed &= report(name, Some(class), &stored::compare(list, &replaced));
+        passed &= report(name, Some(class), &stored::compare(list, &replaced, true));
     }
     passed &= report(
         "a missing line",
@@ -52,6 +52,10 @@ pub fn run(list: &str) -> bool {
         Some(Class::Refusals),
         &without_line(list, &right, "\nrefused "),
     );
+    let more = format!("{right}ok\n");
+    passed &= report("a spare answer", Some(Class::Form), &stored::compare(list, &more, true));
+    let failing = stored::compare(list, &right, false);
+    passed &= report("a program that fails", Some(Class::Form), &failing);
     let verdict = match passed {
         true => "the comparer fails where it must",
         false => "THE COMPARER IS AT FAULT",
@@ -90,7 +94,7 @@ const REPLACED: [(&str, &str, &str, Class); 8] = [
 fn without_line(list: &str, right: &str, begin: &str) -> Comparison {
     let at = right.rfind(begin).expect("such a line") + 1;
     let end = right[at..].find('\n').map_or(right.len(), |end| at + end + 1);
-    stored::compare(list, &format!("{}{}", &right[..at], &right[end..]))
+    stored::compare(list, &format!("{}{}", &right[..at], &right[end..]), true)
 }
 
 /// The answers with the last word of a class spoilt.

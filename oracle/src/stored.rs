@@ -33,8 +33,8 @@ fn entries(list: &str) -> Vec<Entry<'_>> {
     entries
 }
 
-/// What a program answered to the list, compared with it.
-pub fn compare(list: &str, output: &str) -> Comparison {
+/// What a program answered to the list, compared with it, and whether it ended well.
+pub fn compare(list: &str, output: &str, ended_well: bool) -> Comparison {
     let mut comparison = Comparison::default();
     let mut answers = Answers::of(output);
     for entry in entries(list) {
@@ -50,6 +50,7 @@ pub fn compare(list: &str, output: &str) -> Comparison {
             comparison.lines(&asked, &ours, lines, of_stored_line);
         }
     }
+    comparison.end(0, answers.next().is_none(), ended_well);
     comparison
 }
 

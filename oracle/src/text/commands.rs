@@ -1,7 +1,7 @@
 //! The commands that ask the crate.
 
 use super::differ::{Options, Way, compare_script, run as run_scripts};
-use super::session::Session;
+use super::session::{Session, keep_quiet};
 use super::store;
 use crate::answers::{Answers, NO_ANSWER};
 use crate::compare::Comparison;
@@ -22,16 +22,7 @@ const FIRST: [&str; 2] = [
 ];
 
 pub fn run(command: &str, arguments: &mut Arguments) -> Outcome {
-    // What the crate panics over is an answer here, not a fault of the program.
-    let hook = std::panic::take_hook();
-    std::panic::set_hook(Box::new(move |panic| {
-        let in_crate = panic
-            .location()
-            .is_some_and(|place| !place.file().starts_with("oracle/src"));
-        if !in_crate {
-            hook(panic);
-        }
-    }));
+    keep_quiet();
     match command {
         "answer" => answer(arguments),
         "compare" => compare(arguments),
@@ -83,7 +74,9 @@ fn compare_files(script: &str, answers: &str) -> Result<bool, String> {
     let (script, answers) = (files::read(script)?, files::read(answers)?);
     Ok(concluded(&Way::BOTH.map(|way| {
         let mut comparison = Comparison::default();
-        compare_script(&mut comparison, 0, &script, &mut Answers::of(&answers), way);
+        let mut answers = Answers::of(&answers);
+        compare_script(&mut comparison, 0, &script, &mut answers, way);
+        comparison.end(0, answers.next().is_none(), true);
         comparison
     })))
 }
@@ -102,13 +95,14 @@ fn differ(arguments: &mut Arguments) -> Outcome {
         save: arguments.option("--save", SAVE.into(), path)?,
     };
     arguments.all_read()?;
-    let comparisons = run_scripts(&options);
-    println!(
-        "scripts {first} to {} of seed {}",
-        options.scripts.end.saturating_sub(1),
-        options.seed
-    );
-    Some(Ok(concluded(&comparisons)))
+    Some(
+        run_scripts(&options)
+            .map_err(|error| error.to_string())
+            .map(|comparisons| {
+                println!("{count} scripts of seed {}, from script {first} on", options.seed);
+                concluded(&comparisons)
+            }),
+    )
 }
 
 fn concluded(comparisons: &[Comparison; 2]) -> bool {

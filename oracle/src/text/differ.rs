@@ -5,13 +5,14 @@ use super::session::Session;
 use crate::answers::{Answers, NO_ANSWER};
 use crate::class::Class;
 use crate::compare::{Asked, Comparison};
+use generate::batches::in_batches;
 use generate::compare::run as play;
 use generate::families::{Expected, Family, script};
 use script::{Command, Line, read};
+use std::io;
 use std::ops::Range;
-use std::path::{Path, PathBuf};
+use std::path::PathBuf;
 use std::sync::Mutex;
-use std::sync::atomic::{AtomicU64, Ordering};
 
 /// Which shifts the crate's root has.
 #[derive(Clone, Copy, Debug, PartialEq, Eq)]
@@ -47,60 +48,48 @@ const BATCH: u64 = 100;
 const TOLD: u64 = 10_000;
 
 /// What came of each way: one run of the program serves both.
-pub fn run(options: &Options) -> [Comparison; 2] {
-    let next = AtomicU64::new(options.scripts.start);
+///
+/// # Errors
+/// The program can't be run, or a script can't be written.
+pub fn run(options: &Options) -> io::Result<[Comparison; 2]> {
     let total = Mutex::new([Comparison::default(), Comparison::default()]);
-    std::thread::scope(|scope| {
-        for _ in 0..options.jobs.max(1) {
-            scope.spawn(|| {
-                loop {
-                    let first = next.fetch_add(BATCH, Ordering::Relaxed);
-                    if first >= options.scripts.end {
-                        break;
-                    }
-                    let batch = run_batch(options, first..options.scripts.end.min(first + BATCH));
-                    let mut total = total.lock().expect("no panic");
-                    for (sum, more) in total.iter_mut().zip(batch) {
-                        sum.add(more);
-                    }
-                    let differences: u64 = total.iter().map(Comparison::found).sum();
-                    if (first + BATCH).is_multiple_of(TOLD) {
-                        eprintln!("up to script {}: {differences} differences", first + BATCH - 1);
-                    }
-                }
-            });
+    in_batches(&options.scripts, BATCH, options.jobs, |numbers| {
+        let next = numbers.end;
+        let batch = run_batch(options, numbers)?;
+        let mut total = total.lock().expect("no panic");
+        for (sum, more) in total.iter_mut().zip(batch) {
+            sum.add(more);
         }
-    });
-    total.into_inner().expect("no panic")
+        if next.is_multiple_of(TOLD) {
+            let differences: u64 = total.iter().map(Comparison::found).sum();
+            eprintln!("about script {next}: {differences} differences");
+        }
+        Ok(())
+    })?;
+    Ok(total.into_inner().expect("no panic"))
 }
 
-fn run_batch(options: &Options, numbers: Range<u64>) -> [Comparison; 2] {
+fn run_batch(options: &Options, numbers: Range<u64>) -> io::Result<[Comparison; 2]> {
     let scripts: Vec<(u64, String)> = numbers
         .map(|number| (number, script(options.seed, number, options.family)))
         .collect();
     let input: String = scripts.iter().map(|(_, text)| text.as_str()).collect();
-    let (output, _) = play(&options.program, input.as_bytes()).unwrap_or_else(|error| panic!("{error}"));
+    let (output, status) = play(&options.program, input.as_bytes())?;
     let output = String::from_utf8_lossy(&output);
-    Way::BOTH.map(|way| {
+    let mut comparisons = [Comparison::default(), Comparison::default()];
+    for (comparison, way) in comparisons.iter_mut().zip(Way::BOTH) {
         let mut answers = Answers::of(&output);
-        let mut comparison = Comparison::default();
         for (number, text) in &scripts {
             let known = comparison.found();
-            compare_script(&mut comparison, *number, text, &mut answers, way);
+            compare_script(comparison, *number, text, &mut answers, way);
             if comparison.found() > known {
-                save(&options.save, *number, text);
+                std::fs::create_dir_all(&options.save)?;
+                std::fs::write(options.save.join(format!("{number}.txt")), text)?;
             }
         }
-        comparison
-    })
-}
-
-fn save(folder: &Path, number: u64, text: &str) {
-    let written =
-        std::fs::create_dir_all(folder).and_then(|()| std::fs::write(folder.join(format!("{number}.txt")), text));
-    if let Err(error) = written {
-        eprintln!("{}: {error}", folder.display());
+        comparison.end(scripts[0].0, answers.next().is_none(), status.success());
     }
+    Ok(comparisons)
 }
 
 /// A script's answers, compared with the crate's.

@@ -4,6 +4,7 @@ use super::engine::Engine;
 use super::facts::Facts;
 use super::later;
 use script::{Command, Line, read};
+use std::cell::Cell;
 use std::panic::{AssertUnwindSafe, catch_unwind};
 
 #[derive(Clone)]
@@ -40,9 +41,27 @@ impl Session {
     }
 }
 
+thread_local! {
+    /// Whether the crate is being asked.
+    static ASKED: Cell<bool> = const { Cell::new(false) };
+}
+
+/// What the crate panics over is an answer, not a fault of the program: from now on nothing is told of it.
+pub fn keep_quiet() {
+    let tell = std::panic::take_hook();
+    std::panic::set_hook(Box::new(move |panic| {
+        if !ASKED.get() {
+            tell(panic);
+        }
+    }));
+}
+
 /// What `answer` gives, or the words of the panic that it ends in.
 fn caught(answer: impl FnOnce() -> String) -> String {
-    catch_unwind(AssertUnwindSafe(answer)).unwrap_or_else(|panic| {
+    ASKED.set(true);
+    let answered = catch_unwind(AssertUnwindSafe(answer));
+    ASKED.set(false);
+    answered.unwrap_or_else(|panic| {
         let text = panic.downcast_ref::<String>().map(String::as_str);
         let words = text.or(panic.downcast_ref::<&str>().copied()).unwrap_or("");
         format!("panic {}\n", words.replace('\n', " "))

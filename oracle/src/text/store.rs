@@ -107,7 +107,7 @@ pub fn files(first: &[&str]) -> [File; 2] {
             .map(|script| with_answers(&script, &choice.size));
         list.extend(chosen.take(choice.scripts));
     }
-    let counts = counts(&compare(&list, &right_output(&list)));
+    let counts = counts(&compare(&list, &right_output(&list), true));
     [("script", list), ("counts", counts)]
 }
 
