@@ -233,11 +233,16 @@ impl Engine for Lent {
         let lent = lent.min(DOFS);
         let [velocities, .., accelerations] = &self.arm().rows;
         let (velocities, accelerations) = (&velocities.entries[..lent], &accelerations.entries[..lent]);
-        let (row, view) = match role {
-            Role::Velocities => (velocities, ffi::view_velocities as fn(_, _, _, _) -> _),
-            Role::Accelerations => (accelerations, ffi::view_accelerations as fn(_, _, _, _) -> _),
+        let (row, part) = match role {
+            Role::Velocities => (
+                velocities,
+                ffi::view_velocities(self.arm(), link, velocities, accelerations),
+            ),
+            Role::Accelerations => (
+                accelerations,
+                ffi::view_accelerations(self.arm(), link, velocities, accelerations),
+            ),
         };
-        let part: giellavor::abi::RowPart = view(self.arm(), link, velocities, accelerations);
         refused(part.refusal)?;
         let own = row.get(part.offset..).and_then(|row| row.get(..part.length));
         own.map(<[f32]>::to_vec).ok_or(No::Wrong("a part past its row"))
@@ -250,15 +255,17 @@ impl Engine for Lent {
     }
 
     fn split(&self, how: Split, link: u32, map: &mut [u8]) -> Answer<usize> {
-        let (split, by_parents): (fn(_, _, &mut [u8]) -> _, fn(&[u8], _, &mut [u8]) -> _) = match how {
-            Split::Delete => (ffi::arm_split_delete, ffi::split_delete),
-            Split::Cut => (ffi::arm_split_cut, ffi::split_cut),
+        let answer = match how {
+            Split::Delete => ffi::arm_split_delete(self.arm(), link, map),
+            Split::Cut => ffi::arm_split_cut(self.arm(), link, map),
         };
-        let answer = split(self.arm(), link, map);
         refused(answer.refusal)?;
         let parents = self.parents();
         let mut bare = vec![0; 2 * parents.len()];
-        let parts = told(by_parents(&parents, link, &mut bare))?;
+        let parts = told(match how {
+            Split::Delete => ffi::split_delete(&parents, link, &mut bare),
+            Split::Cut => ffi::split_cut(&parents, link, &mut bare),
+        })?;
         let same = parts == answer.count && map.get(..bare.len()) == Some(&bare[..]);
         held(same, "another split by bare parents")?;
         Ok(answer.count)
@@ -434,7 +441,7 @@ impl Engine for Lent {
 
     /// As the library counts them, where it takes the arm; else by the masks' bits.
     fn start(&self, link: usize) -> usize {
-        let by_masks = |number| (!self.arm().links[number as usize].joint.locked & 7).count_ones() as usize;
+        let by_masks = |number: usize| (!self.arm().links[number].joint.locked & 7).count_ones() as usize;
         let answer = match link < self.links() {
             true => ffi::link_start(self.arm(), link as u32),
             false => ffi::arm_dofs(self.arm()),
