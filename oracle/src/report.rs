@@ -1,7 +1,7 @@
 //! What a comparison came to, in words.
 
 use crate::class::{Class, Rule};
-use crate::compare::Comparison;
+use crate::compare::{Comparison, Count};
 use std::collections::BTreeMap;
 use std::fmt::{Display, Write};
 
@@ -37,6 +37,15 @@ pub fn print(comparison: &Comparison) {
             count.differences
         );
     }
+    let total = |of: fn(&Count) -> u64| -> u64 { comparison.counts.values().map(of).sum() };
+    println!(
+        "{:44} {:>12} {:>12} {:>22} {:>8}",
+        "all",
+        total(|count| count.values),
+        total(|count| count.same_bits),
+        total(|count| count.left_out),
+        comparison.found()
+    );
     print_left_out(comparison);
     for difference in comparison.differences.iter().take(SHOWN) {
         let class = difference.class.name();
