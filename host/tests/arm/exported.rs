@@ -3,8 +3,7 @@
 use crate::calls::{Call, World};
 use crate::memory::{Memory, bits, same};
 use giellavor::{
-    Arm, DOFS, Force, LINKS, Lent, Limits, NewCoupling, NewLink, Point, Pose, Refusal, Role, RowName, Split, Spring,
-    abi, axis, ffi,
+    Arm, DOFS, Force, LINKS, Lent, Limits, NewLink, Point, Pose, Refusal, Role, RowName, Split, Spring, abi, axis, ffi,
 };
 
 const FIRST: Pose = Pose {
@@ -112,13 +111,7 @@ const EDITS: [(Call, Method); 20] = [
         assert_eq!(number + 1, arm.link_count());
         Ok(())
     }),
-    (Call::AddCoupling(COUPLING), |arm| {
-        arm.add_coupling(NewCoupling {
-            coefficient: 0.5,
-            offset: -2.0,
-            ..NewCoupling::between(1, 2, 3, 0)
-        })
-    }),
+    (Call::AddCoupling(COUPLING), |arm| arm.add_coupling(COUPLING.into())),
     (Call::WriteVelocity(2, 1, 9.0), |arm| {
         arm.write_row(RowName::Velocities, 2, 1, 9.0)
     }),

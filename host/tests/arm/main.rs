@@ -6,8 +6,6 @@ mod exported;
 mod memory;
 mod methods;
 mod outline;
-#[path = "../common/random.rs"]
-mod random;
 mod refusals;
 mod sequences;
 #[path = "../common/size.rs"]
