@@ -3,6 +3,7 @@
 mod calls;
 mod equality;
 mod exported;
+mod given;
 mod memory;
 mod methods;
 mod outline;
