@@ -2,7 +2,8 @@
 //! made anew where the stamp doesn't fit; no time counts.
 
 use crate::sources::Sources;
-use crate::{kit, sha256, stop};
+use crate::stop::stop;
+use crate::{kit, sha256};
 use std::fmt;
 use std::fs;
 use std::path::{Path, PathBuf};

@@ -1,6 +1,6 @@
 //! The Rattle kit, by its `rt` on PATH.
 
-use crate::stop;
+use crate::stop::stop;
 use std::env;
 use std::path::{Path, PathBuf};
 use std::process::{Command, Output};

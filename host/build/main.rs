@@ -4,6 +4,7 @@ mod archive;
 mod kit;
 mod sha256;
 mod sources;
+mod stop;
 
 use archive::Archive;
 use std::env;
@@ -11,7 +12,7 @@ use std::fs;
 use std::fs::File;
 use std::os::fd::AsRawFd;
 use std::path::{Path, PathBuf};
-use std::process::exit;
+use stop::stop;
 
 /// The calls of the library.
 const CALLS: Archive = Archive {
@@ -89,9 +90,4 @@ fn readme(file: &Path) {
     let blocks: String = blocks.map(|block| format!("```\n{block}```\n")).collect();
     let made = PathBuf::from(env::var_os("OUT_DIR").unwrap_or_default()).join("readme.md");
     fs::write(&made, blocks).unwrap_or_else(|why| stop(&format!("{} can't be written: {why}", made.display())));
-}
-
-fn stop(why: &str) -> ! {
-    eprintln!("giellavor: {why}");
-    exit(1)
 }

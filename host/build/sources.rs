@@ -1,6 +1,7 @@
 //! What an archive is made of: the crates that it joins and, by the lines of crates.txt, all that they use.
 
-use crate::{sha256, stop};
+use crate::sha256;
+use crate::stop::stop;
 use std::collections::BTreeSet;
 use std::fs;
 use std::path::{Path, PathBuf};

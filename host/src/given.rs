@@ -159,3 +159,14 @@ impl NewCoupling {
         }
     }
 }
+
+/// The links are named by their numbers.
+impl From<abi::NewCoupling> for NewCoupling {
+    fn from(given: abi::NewCoupling) -> NewCoupling {
+        NewCoupling {
+            coefficient: given.coefficient,
+            offset: given.offset,
+            ..NewCoupling::between(given.link1, given.axis1, given.link2, given.axis2)
+        }
+    }
+}

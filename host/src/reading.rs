@@ -53,6 +53,18 @@ impl abi::Arm {
             kept(self).eq(kept(worked.state())) && tables.eq(bits::of_floats(worked.tables()))
         })
     }
+
+    /// Every field by its bits, what stands behind the counts included: a refused call leaves them all. By them a NaN is itself and −0 is not +0, which
+    /// `==` takes by their values.
+    pub fn bits(&self) -> impl Iterator<Item = u32> {
+        let counts = [self.link_count, self.coupling_count].into_iter();
+        let counts = counts.flat_map(|count| [count as u32, (count >> 32) as u32]);
+        let rows = self.rows.iter().flat_map(|row| bits::of_floats(&row.entries));
+        counts
+            .chain(self.links.iter().flat_map(bits::of_link))
+            .chain(self.couplings.iter().flat_map(bits::of_coupling))
+            .chain(rows)
+    }
 }
 
 /// What is kept of every link.

@@ -233,8 +233,16 @@ impl Arm {
     }
 }
 
+/// Whether a bare list has a parent that doesn't come before its link.
+pub fn misplaces(parents: &[u8]) -> bool {
+    parents
+        .iter()
+        .enumerate()
+        .any(|(link, &parent)| is_misplaced(link, parent))
+}
+
 /// Whether a link's parent doesn't come before it; the root is its own.
-pub fn is_misplaced(link: usize, parent: u8) -> bool {
+fn is_misplaced(link: usize, parent: u8) -> bool {
     parent as usize >= link.max(1)
 }
 

@@ -1,6 +1,6 @@
 //! Splits: a link goes, or its joint is cut, and the arm falls into parts.
 
-use crate::arm::{Arm, Link, is_misplaced};
+use crate::arm::{Arm, Link, misplaces};
 use crate::joint::Joint;
 use crate::kinematics::{blocks_of, full_working};
 use crate::limits::{LINKS, TABLES};
@@ -94,10 +94,9 @@ fn parents_of(links: &[Link]) -> impl Iterator<Item = u8> {
 
 /// Part and new number of each link of a bare list of parents, into `map`; the answer is the part count.
 pub fn split_map(parents: &[u8], how: Split, link: u32, map: &mut [u8]) -> Answer<usize> {
-    let misplaced = |(i, &parent): (usize, &u8)| is_misplaced(i, parent);
     Short.when(map.len() < 2 * parents.len())?;
     Full.when(parents.len() > LINKS)?;
-    Number.when(link as usize >= parents.len() || parents.iter().enumerate().any(misplaced))?;
+    Number.when(link as usize >= parents.len() || misplaces(parents))?;
     let parts = how.parts(parents.iter().copied(), link as usize);
     parts.write(parents.len(), map);
     Ok(parts.count)

@@ -1,6 +1,6 @@
 //! The tree of links: additions, row writes, couplings, springs, branches and views of rows.
 
-use crate::arm::{Arm, Coupling, Kept, Link, RowName, is_root_mask};
+use crate::arm::{Arm, Coupling, Kept, Link, RowName, is_root_mask, misplaces};
 use crate::floats::finite;
 use crate::joint::Joint;
 use crate::kinematics::{Working, block_of, blocks_of};
@@ -9,6 +9,7 @@ use crate::masks::{self, is_axis, is_mask};
 use crate::point::Point;
 use crate::pose::Pose;
 use crate::refusal::{Answer, Refusal::*};
+use std::iter::successors;
 
 /// A link as a caller asks for it.
 #[derive(Clone, Copy, Debug)]
@@ -28,6 +29,28 @@ pub struct NewLink {
 pub enum Role {
     Velocities,
     Accelerations,
+}
+
+/// The links from this one up to the root, as far as parents are earlier; none without such a link.
+fn upwards(parents: &[u8], link: u32) -> impl Iterator<Item = usize> {
+    let parent = |&link: &usize| Some(parents[link] as usize).filter(|&parent| parent < link);
+    successors(Some(link as usize).filter(|&link| link < parents.len()), parent)
+}
+
+fn write_branch(parents: &[u8], link: u32, branch: &mut [u8]) -> usize {
+    for (place, at) in branch.iter_mut().rev().zip(upwards(parents, link)) {
+        *place = at as u8;
+    }
+    branch.len()
+}
+
+/// The links from the root to one of a bare list of parents, into `branch`; the answer is how many.
+pub fn branch(parents: &[u8], link: u32, branch: &mut [u8]) -> Answer<usize> {
+    let length = upwards(parents, link).count();
+    Short.when(branch.len() < length)?;
+    Full.when(parents.len() > LINKS)?;
+    Number.when(length == 0 || misplaces(parents))?;
+    Ok(write_branch(parents, link, &mut branch[..length]))
 }
 
 impl Arm {
@@ -161,35 +184,16 @@ impl Arm {
         Ok(self.links[link as usize].joint.jacobian_mul_coordinates(accelerations))
     }
 
-    /// Links from this one up to the root, as far as parents are earlier: how many.
-    fn branch_length(&self, link: usize) -> usize {
-        let mut at = link;
-        let mut length = 1;
-        while (self.links[at].parent as usize) < at {
-            at = self.links[at].parent as usize;
-            length += 1;
-        }
-        length
-    }
-
     /// The links from the root to this one, into `branch`; the answer is how many.
     pub fn kinematic_branch(&self, link: u32, branch: &mut [u8]) -> Answer<usize> {
-        let length = if self.has_link(link) {
-            self.branch_length(link as usize)
-        } else {
-            0
-        };
+        let parents: Vec<u8> = self.links().iter().map(|link| link.parent).collect();
+        let length = upwards(&parents, link).count();
         self.tested(|rule| match rule {
             Short => branch.len() < length,
             Number => !self.has_link(link),
             _ => false,
         })?;
-        let mut at = link as u8;
-        for place in branch[..length].iter_mut().rev() {
-            *place = at;
-            at = self.links[at as usize].parent;
-        }
-        Ok(length)
+        Ok(write_branch(&parents, link, &mut branch[..length]))
     }
 
     /// A link's own part of the one or the other slice; both are to hold a float for each DoF.

@@ -1,11 +1,10 @@
 //! Every method of the safe type gives what its exported function gives, bit for bit. No two arguments are alike, so that none stands in another's place.
 
 use crate::calls::{Call, World};
+use crate::given::{FORCE, LIMITS, SPRING};
 use crate::memory::{Memory, bits, same};
-use giellavor::{
-    Arm, DOFS, Force, LINKS, Lent, Limits, NewCoupling, NewLink, Point, Pose, Refusal, Role, RowName, Split, Spring,
-    abi, axis, ffi,
-};
+use generate::{Rng, masses};
+use giellavor::{Arm, DOFS, LINKS, Lent, NewLink, Point, Pose, Refusal, Role, RowName, Split, Spring, abi, axis, ffi};
 
 const FIRST: Pose = Pose {
     re: 0.6,
@@ -20,23 +19,6 @@ const SECOND: Pose = Pose {
     y: 0.125,
 };
 const CENTRE: Point = Point { x: 0.375, y: -0.625 };
-const SPRING: Spring = Spring {
-    stiffness: 3.0,
-    rest: 0.5,
-};
-const LIMITS: Limits = Limits {
-    position: 1.5,
-    min: -0.75,
-    max: 1.25,
-    dt: 0.1,
-    erp_inv_dt: 7.0,
-    cfm_coeff: 0.5,
-};
-const FORCE: Force = Force {
-    x: 1.0,
-    y: 0.5,
-    torque: -0.25,
-};
 const LINK: abi::NewLink = abi::NewLink {
     tag: 20,
     parent: 2,
@@ -90,14 +72,6 @@ fn arm() -> Arm {
     arm
 }
 
-/// A mass matrix of the arm that is not symmetric, its diagonal the greatest.
-fn mass(n: usize) -> Vec<f32> {
-    let entry = |i: usize, j: usize| {
-        if i == j { 4.0 } else { 1.0 / (1 + 2 * i + j) as f32 }
-    };
-    (0..n * n).map(|at| entry(at / n, at % n)).collect()
-}
-
 type Method = fn(&mut Arm) -> Result<(), Refusal>;
 
 /// Puts an arm in another's place.
@@ -112,13 +86,7 @@ const EDITS: [(Call, Method); 20] = [
         assert_eq!(number + 1, arm.link_count());
         Ok(())
     }),
-    (Call::AddCoupling(COUPLING), |arm| {
-        arm.add_coupling(NewCoupling {
-            coefficient: 0.5,
-            offset: -2.0,
-            ..NewCoupling::between(1, 2, 3, 0)
-        })
-    }),
+    (Call::AddCoupling(COUPLING), |arm| arm.add_coupling(COUPLING.into())),
     (Call::WriteVelocity(2, 1, 9.0), |arm| {
         arm.write_row(RowName::Velocities, 2, 1, 9.0)
     }),
@@ -268,7 +236,8 @@ type Filled<T> = (T, Vec<f32>, Vec<f32>);
 
 fn filled<T>(call: impl FnOnce(&[f32], &mut [f32], &mut [f32]) -> T) -> Filled<T> {
     let (mut j, mut wj) = (vec![7.0; DOFS], vec![9.0; DOFS]);
-    let said = call(&mass(12), &mut j, &mut wj);
+    let mass = masses::dominant(&mut Rng::new(1, 0), 12);
+    let said = call(&mass, &mut j, &mut wj);
     (said, j, wj)
 }
 

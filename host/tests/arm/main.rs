@@ -3,11 +3,10 @@
 mod calls;
 mod equality;
 mod exported;
+mod given;
 mod memory;
 mod methods;
 mod outline;
-#[path = "../common/random.rs"]
-mod random;
 mod refusals;
 mod sequences;
 #[path = "../common/size.rs"]

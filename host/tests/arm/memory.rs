@@ -1,6 +1,6 @@
 //! Memory to lend, between guards; and arms by their bits.
 
-use giellavor::abi::{Arm, Coupling, Edited, Joint, Link, Point, Pose, Rotation};
+use giellavor::abi::{Arm, Edited, Point};
 
 const GUARD: usize = 16;
 
@@ -76,79 +76,16 @@ impl Place {
     }
 }
 
-// ---- An arm by its bits, counted or not
+// ---- By their bits
 
 /// The same floats, bit for bit.
 pub fn same(a: &[f32], b: &[f32]) -> bool {
     a.iter().map(|x| x.to_bits()).eq(b.iter().map(|x| x.to_bits()))
 }
 
-/// The bits of every field of an arm.
+/// The bits of every field of an arm, counted or not.
 pub fn bits(arm: &Arm) -> Vec<u32> {
-    let mut bits = vec![arm.link_count as u32, (arm.link_count >> 32) as u32];
-    bits.extend([arm.coupling_count as u32, (arm.coupling_count >> 32) as u32]);
-    for link in &arm.links {
-        let Link {
-            tag,
-            parent,
-            joint,
-            centre,
-            world,
-            shift02,
-            shift23,
-        } = *link;
-        bits.extend([tag, parent.into()]);
-        joint_bits(joint, &mut bits);
-        bits.extend(floats_of(world).map(f32::to_bits));
-        bits.extend(
-            [centre, shift02, shift23]
-                .iter()
-                .flat_map(|p| [p.x, p.y])
-                .map(f32::to_bits),
-        );
-    }
-    for coupling in &arm.couplings {
-        let Coupling {
-            link1,
-            axis1,
-            link2,
-            axis2,
-            coefficient,
-            offset,
-        } = *coupling;
-        bits.extend([link1, axis1, link2, axis2].map(u32::from));
-        bits.extend([coefficient, offset].map(f32::to_bits));
-    }
-    bits.extend(arm.rows.iter().flat_map(|row| row.entries).map(f32::to_bits));
-    bits
-}
-
-fn joint_bits(joint: Joint, bits: &mut Vec<u32>) {
-    let Joint {
-        locked,
-        limit,
-        motor,
-        frame1,
-        frame2,
-        coordinates,
-        rotation,
-        stiffness,
-        rest,
-    } = joint;
-    let Rotation { re, im } = rotation;
-    bits.extend([locked, limit, motor].map(u32::from));
-    let floats = [floats_of(frame1), floats_of(frame2)].concat();
-    let floats = floats
-        .into_iter()
-        .chain(coordinates)
-        .chain([re, im])
-        .chain(stiffness)
-        .chain(rest);
-    bits.extend(floats.map(f32::to_bits));
-}
-
-fn floats_of(pose: Pose) -> [f32; 4] {
-    [pose.re, pose.im, pose.x, pose.y]
+    arm.bits().collect()
 }
 
 pub const ORIGIN: Point = Point { x: 0.0, y: 0.0 };

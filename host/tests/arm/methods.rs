@@ -1,155 +1,127 @@
 //! Every method of the safe type with any argument: none panics, and what is refused changes nothing.
 
 use crate::memory::{bits, same};
-use crate::random::Random;
 use crate::size::calls;
-use crate::wild::Wild;
-use giellavor::{Arm, Force, Lent, Limits, NewCoupling, NewLink, Role, RowName, Split, Spring, Tag, Which};
+use crate::wild;
+use generate::Hand;
+use giellavor::{Arm, Lent, NewCoupling, NewLink, Role, RowName, Split, Tag, Which};
 
-/// Any number: a small one mostly.
-fn number(wild: &mut Wild) -> u32 {
-    wild.random.number(18)
+/// Any number of a link or part: a small one mostly.
+fn number(hand: &mut Hand) -> u32 {
+    hand.rng.number(18)
+}
+
+fn axis(hand: &mut Hand) -> u32 {
+    hand.rng.number(4)
+}
+
+fn mask(hand: &mut Hand) -> u32 {
+    hand.rng.number(9)
+}
+
+fn tag(hand: &mut Hand) -> Tag {
+    Tag(hand.rng.number(40))
 }
 
 /// A link by any number, or by any tag.
-fn which(wild: &mut Wild) -> Which {
-    match wild.random.below(2) {
-        0 => number(wild).into(),
-        _ => Tag(wild.random.number(40)).into(),
+fn which(hand: &mut Hand) -> Which {
+    match hand.rng.below(2) {
+        0 => number(hand).into(),
+        _ => tag(hand).into(),
     }
 }
 
-fn floats(wild: &mut Wild) -> Vec<f32> {
-    let length = [0, 3, 48, 60, 2304][wild.random.below(5)];
-    (0..length).map(|_| wild.float()).collect()
+fn floats(hand: &mut Hand) -> Vec<f32> {
+    let length = hand.rng.pick(&[0, 3, 48, 60, 2304]);
+    hand.floats(length)
+}
+
+fn new_link(hand: &mut Hand) -> NewLink {
+    NewLink {
+        tag: tag(hand),
+        parent: which(hand),
+        locked: mask(hand),
+        limit: mask(hand),
+        motor: mask(hand),
+        frame1: wild::pose(hand),
+        frame2: wild::pose(hand),
+        centre: wild::point(hand),
+    }
+}
+
+fn coupling(hand: &mut Hand) -> NewCoupling {
+    NewCoupling {
+        link1: which(hand),
+        axis1: axis(hand),
+        link2: which(hand),
+        axis2: axis(hand),
+        coefficient: hand.float(),
+        offset: hand.float(),
+    }
 }
 
 /// One method that may change the arm; says whether it was done.
-fn edit(wild: &mut Wild, arm: &mut Arm) -> bool {
-    let (link, axis, x) = (which(wild), wild.random.number(4), wild.float());
-    match wild.random.below(12) {
-        0 | 1 => {
-            let mask = wild.random.number(9);
-            let (limit, motor) = (wild.random.number(9), wild.random.number(9));
-            let (frame1, frame2, centre) = (wild.pose(), wild.pose(), wild.point());
-            let tag = Tag(wild.random.number(40));
-            arm.add_link(NewLink {
-                tag,
-                parent: link,
-                locked: mask,
-                limit,
-                motor,
-                frame1,
-                frame2,
-                centre,
-            })
-            .is_ok()
-        }
-        2 => arm.add_link(NewLink::free(wild.random.number(40), 0)).is_ok(),
-        3 => {
-            let (link2, axis2, offset) = (which(wild), wild.random.number(4), wild.float());
-            arm.add_coupling(NewCoupling {
-                link1: link,
-                axis1: axis,
-                link2,
-                axis2,
-                coefficient: x,
-                offset,
-            })
-            .is_ok()
-        }
-        4 => arm.write_row(RowName::ALL[wild.random.below(5)], link, axis, x).is_ok(),
-        5 => arm
-            .set_spring(
-                link,
-                axis,
-                Spring {
-                    stiffness: x,
-                    rest: wild.float(),
-                },
-            )
-            .is_ok(),
-        6 => arm.move_coordinate(link, axis, x).is_ok(),
-        7 => arm.move_frames(link, wild.pose(), wild.pose()).is_ok(),
-        8 => arm.move_centre(link, wild.point()).is_ok(),
-        9 => arm.step(x).is_ok(),
-        10 => arm.free_root(wild.pose()).is_ok(),
-        _ => arm.fix_root(wild.pose()).is_ok(),
+fn edit(hand: &mut Hand, arm: &mut Arm) -> bool {
+    let (link, axis) = (which(hand), axis(hand));
+    let row = hand.rng.pick(&RowName::ALL);
+    match hand.rng.below(12) {
+        0 | 1 => arm.add_link(new_link(hand)).is_ok(),
+        2 => arm.add_link(NewLink::free(tag(hand), 0)).is_ok(),
+        3 => arm.add_coupling(coupling(hand)).is_ok(),
+        4 => arm.write_row(row, link, axis, hand.float()).is_ok(),
+        5 => arm.set_spring(link, axis, wild::spring(hand)).is_ok(),
+        6 => arm.move_coordinate(link, axis, hand.coordinate(axis)).is_ok(),
+        7 => arm.move_frames(link, wild::pose(hand), wild::pose(hand)).is_ok(),
+        8 => arm.move_centre(link, wild::point(hand)).is_ok(),
+        9 => arm.step(hand.float()).is_ok(),
+        10 => arm.free_root(wild::pose(hand)).is_ok(),
+        _ => arm.fix_root(wild::pose(hand)).is_ok(),
     }
 }
 
 /// One method that reads the arm; says whether it was answered.
-fn read(wild: &mut Wild, arm: &Arm) -> bool {
-    let (link, axis, x) = (which(wild), wild.random.number(4), wild.float());
-    let split = if wild.random.below(2) == 0 {
-        Split::delete(link)
-    } else {
-        Split::cut(link)
-    };
-    let role = if wild.random.below(2) == 0 {
-        Role::Velocities
-    } else {
-        Role::Accelerations
-    };
-    let (mass, mut j, mut wj) = (floats(wild), floats(wild), floats(wild));
+fn read(hand: &mut Hand, arm: &Arm) -> bool {
+    let (link, axis) = (which(hand), axis(hand));
+    let split = hand.rng.pick(&[Split::delete(link), Split::cut(link)]);
+    let role = hand.rng.pick(&[Role::Velocities, Role::Accelerations]);
+    let row = hand.rng.pick(&RowName::ALL);
+    let (mass, mut j, mut wj) = (floats(hand), floats(hand), floats(hand));
     let lent = Lent {
         mass: &mass,
         j: &mut j,
         wj: &mut wj,
     };
-    match wild.random.below(14) {
+    match hand.rng.below(14) {
         0 => arm.split_map(split).is_ok(),
-        1 => arm.part(split, number(wild) as usize).is_ok(),
+        1 => arm.part(split, number(hand) as usize).is_ok(),
         2 => arm.parts(split).is_ok(),
         3 => arm.link(link).is_ok_and(|link| link.rows().count() == 3),
         4 => arm
             .link(link)
             .is_ok_and(|found| link == found.tag().into() || link == found.number().into()),
         5 => arm.link_start(link).is_ok(),
-        6 => arm.row(RowName::ALL[wild.random.below(5)]).len() == arm.dof_count(),
+        6 => arm.row(row).len() == arm.dof_count(),
         7 => arm.row_view(role, link, &mass, &j).is_ok(),
         8 => arm.kinematic_branch(link).is_ok(),
         9 => arm.spring(link, axis).is_ok(),
         10 => arm.jacobian_mul_coordinates(link, &mass).is_ok(),
-        11 => {
-            let limits = Limits {
-                position: x,
-                min: wild.float(),
-                max: wild.float(),
-                dt: x,
-                erp_inv_dt: x,
-                cfm_coeff: x,
-            };
-            arm.limit_row(link, axis, limits, lent).is_ok()
-        }
-        12 => arm.friction_row(link, axis, x, wild.float(), lent).is_ok(),
-        _ => arm
-            .fill_jacobians(
-                link,
-                Force {
-                    x,
-                    y: wild.float(),
-                    torque: x,
-                },
-                lent,
-            )
+        11 => arm.limit_row(link, axis, wild::limits(hand), lent).is_ok(),
+        12 => arm
+            .friction_row(link, axis, hand.float(), hand.cfm_coeff(), lent)
             .is_ok(),
+        _ => arm.fill_jacobians(link, wild::force(hand), lent).is_ok(),
     }
 }
 
 #[test]
 fn no_method_panics() {
-    let mut random = Random(17);
+    let mut hand = wild::hand(17, 100);
     let mut arm = Arm::new();
     let (mut answered, turns) = (0, calls() / 10);
     for turn in 0..turns {
-        let mut wild = Wild {
-            random: &mut random,
-            odd: 10,
-        };
-        answered += usize::from(read(&mut wild, &arm));
+        answered += usize::from(read(&mut hand, &arm));
         let before = arm.clone();
-        let done = edit(&mut wild, &mut arm);
+        let done = edit(&mut hand, &mut arm);
         assert!(done || bits(arm.state()) == bits(before.state()));
         assert!(done || arm == before && same(arm.tables(), before.tables()));
         if turn % 300 == 299 {

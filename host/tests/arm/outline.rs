@@ -1,15 +1,10 @@
 //! What an arm prints of itself, and what is read of a link by its number and by its tag.
 
+use crate::given::hinge;
 use giellavor::{Arm, NewLink, Pose, Refusal, Tag, axis};
 
 fn arm() -> Arm {
-    let mut arm = Arm::new();
-    arm.add_link(NewLink::fixed(10, 0)).unwrap();
-    arm.add_link(NewLink {
-        frame1: Pose::at(1.0, 0.0),
-        ..NewLink::hinged(11, 0)
-    })
-    .unwrap();
+    let mut arm = hinge();
     arm.add_link(NewLink {
         frame1: Pose::at(0.5, 0.25),
         locked: 6,

@@ -1,6 +1,7 @@
 //! Every refusal of every call that can give it: for an arm that is broken, for memory that is too short, and for the arguments themselves.
 
 use crate::calls::{Call, World};
+use crate::given::{FORCE, LIMITS, SPRING};
 use crate::memory::{Memory, ORIGIN};
 use giellavor::abi::{Arm, Force, Limits, NewCoupling, NewLink, Pose, Spring};
 use giellavor::{COUPLINGS, LINKS, TABLES};
@@ -12,23 +13,6 @@ const TWICE: Pose = Pose {
     im: 0.0,
     x: 0.0,
     y: 0.0,
-};
-const LIMITS: Limits = Limits {
-    position: 0.5,
-    min: -1.0,
-    max: 1.0,
-    dt: 0.1,
-    erp_inv_dt: 10.0,
-    cfm_coeff: 0.5,
-};
-const FORCE: Force = Force {
-    x: 1.0,
-    y: 0.5,
-    torque: 0.25,
-};
-const SPRING: Spring = Spring {
-    stiffness: 1.0,
-    rest: 0.5,
 };
 const COUPLING: NewCoupling = NewCoupling {
     link1: 1,

@@ -2,10 +2,10 @@
 //! nothing but the link and those below it; a refused call touches nothing.
 
 use crate::memory::{bits, same};
-use crate::random::Random;
 use crate::size::calls;
-use crate::wild::Wild;
-use giellavor::{Arm, LinkView, NewCoupling, NewLink, RowName, Split, Spring};
+use crate::wild;
+use generate::Hand;
+use giellavor::{Arm, LinkView, RowName, Split};
 
 /// Every float of a link's picture by its bits.
 fn picture(link: LinkView) -> Vec<u32> {
@@ -20,73 +20,36 @@ fn is_at_or_below(arm: &Arm, link: u32, top: u32) -> bool {
 }
 
 /// One call, at random: whether it was done, and the link that it moved.
-fn call(wild: &mut Wild, arm: &mut Arm) -> (bool, Option<u32>) {
-    let count = arm.link_count();
-    let link = wild.random.below(count as usize + 1) as u32;
-    let axis = wild.random.below(3) as u32;
-    let x = wild.float();
+fn call(hand: &mut Hand, arm: &mut Arm) -> (bool, Option<u32>) {
+    let shape = &wild::shape(arm.state());
+    let (link, [of, axis]) = (hand.link(shape), hand.free_axis(shape));
     let moved = |done: bool| (done, Some(link));
-    let other = |done: bool| (done, None);
-    match wild.random.below(20) {
-        0..=4 if count < 16 => {
-            let parent = wild.random.below(count.max(1) as usize) as u32;
-            let locked = if count == 0 {
-                7 * (axis % 2)
-            } else {
-                wild.random.below(8) as u32
-            };
-            let link = NewLink {
-                locked,
-                frame1: wild.pose(),
-                frame2: wild.pose(),
-                centre: wild.point(),
-                ..NewLink::fixed(wild.random.below(60) as u32, parent)
-            };
-            match arm.add_link(link) {
-                Ok(number) => (true, Some(number)),
-                Err(_) => (false, None),
-            }
+    let nothing_moved = |done: bool| (done, Some(u32::MAX));
+    let all_moved = |done: bool| (done, None);
+    match hand.rng.below(20) {
+        0..=4 => match arm.add_link(wild::new_link(hand, shape).into()) {
+            Ok(number) => (true, Some(number)),
+            Err(_) => (false, None),
+        },
+        5..=8 => (arm.move_coordinate(of, axis, hand.coordinate(axis)).is_ok(), Some(of)),
+        9 | 10 => moved(arm.move_frames(link, wild::pose(hand), wild::pose(hand)).is_ok()),
+        11 | 12 => moved(arm.move_centre(link, wild::point(hand)).is_ok()),
+        13 => {
+            let row = hand.rng.pick(&RowName::ALL);
+            nothing_moved(arm.write_row(row, of, axis, hand.float()).is_ok())
         }
-        5..=8 => moved(arm.move_coordinate(link, axis, 4.0 * x).is_ok()),
-        9 | 10 => moved(arm.move_frames(link, wild.pose(), wild.pose()).is_ok()),
-        11 | 12 => moved(arm.move_centre(link, wild.point()).is_ok()),
-        13 => (
-            arm.write_row(RowName::ALL[wild.random.below(5)], link, axis, x).is_ok(),
-            Some(u32::MAX),
-        ),
-        14 => (
-            arm.set_spring(
-                link,
-                axis,
-                Spring {
-                    stiffness: x,
-                    rest: wild.float(),
-                },
-            )
-            .is_ok(),
-            Some(u32::MAX),
-        ),
-        15 => {
-            let coupling = NewCoupling {
-                coefficient: x,
-                ..NewCoupling::between(link, axis, link / 2, 0)
-            };
-            (arm.add_coupling(coupling).is_ok(), Some(u32::MAX))
-        }
-        16 => other(arm.step(x).is_ok()),
-        17 => other(arm.free_root(wild.pose()).is_ok()),
-        18 => other(arm.fix_root(wild.pose()).is_ok()),
-        _ => other(part(wild, arm, link)),
+        14 => nothing_moved(arm.set_spring(link, hand.axis(shape), wild::spring(hand)).is_ok()),
+        15 => nothing_moved(arm.add_coupling(wild::coupling(hand, shape).into()).is_ok()),
+        16 => all_moved(arm.step(hand.float()).is_ok()),
+        17 => all_moved(arm.free_root(wild::pose(hand)).is_ok()),
+        18 => all_moved(arm.fix_root(wild::pose(hand)).is_ok()),
+        _ => all_moved(part(hand, arm, link)),
     }
 }
 
 /// A split: every part is settled, the parts hold the survivors, and one of them is gone on with.
-fn part(wild: &mut Wild, arm: &mut Arm, link: u32) -> bool {
-    let split = if wild.random.below(2) == 0 {
-        Split::delete(link)
-    } else {
-        Split::cut(link)
-    };
+fn part(hand: &mut Hand, arm: &mut Arm, link: u32) -> bool {
+    let split = hand.rng.pick(&[Split::delete(link), Split::cut(link)]);
     let Ok((count, places)) = arm.split_map(split) else {
         return false;
     };
@@ -102,25 +65,21 @@ fn part(wild: &mut Wild, arm: &mut Arm, link: u32) -> bool {
         places.iter().flatten().count()
     );
     assert!(parts.iter().all(Arm::is_settled));
-    if wild.random.below(3) == 0 && !parts.is_empty() {
-        *arm = parts.swap_remove(wild.random.below(count));
+    if hand.rng.one_in(3) && !parts.is_empty() {
+        *arm = parts.swap_remove(hand.rng.below(count));
     }
     true
 }
 
 #[test]
 fn every_sequence_of_calls_keeps_the_picture_fresh() {
-    let mut random = Random(5);
+    let mut hand = wild::hand(5, 5);
     let mut arm = Arm::new();
     // Each call is worked out in full once more, so that there are fewer.
     let (mut done, calls) = (0, calls() / 10);
     for turn in 0..calls {
-        let mut wild = Wild {
-            random: &mut random,
-            odd: 200,
-        };
         let before = arm.clone();
-        let (was_done, moved) = call(&mut wild, &mut arm);
+        let (was_done, moved) = call(&mut hand, &mut arm);
         done += usize::from(was_done);
         assert!(arm.is_settled(), "call {turn}: {arm:?}");
         if !was_done {

@@ -2,9 +2,8 @@
 //! where it must not; a refused one changes nothing; an arm that comes back is one that the library takes.
 
 use crate::calls::{Call, World};
-use crate::random::Random;
 use crate::size::calls;
-use crate::wild::Wild;
+use crate::wild;
 use giellavor::ffi;
 use std::collections::{BTreeMap, HashMap};
 use std::mem::discriminant;
@@ -13,24 +12,20 @@ const LONG: usize = 50_000;
 
 #[test]
 fn wild_calls() {
-    let mut random = Random(11);
+    let mut hand = wild::hand(11, 0);
     let mut world = World::new();
     let mut seen = HashMap::new();
     let calls = calls();
     for turn in 0..calls {
-        let odd = [400, 60, 8][turn / 997 % 3];
-        let mut wild = Wild {
-            random: &mut random,
-            odd,
-        };
-        if wild.random.below(4) == 0 {
-            wild.lend(&mut world);
+        hand.nature = wild::nature([3, 17, 125][turn / 997 % 3]);
+        if hand.rng.one_in(4) {
+            wild::lend(&mut hand, &mut world);
         }
-        let call = wild.call(&world);
+        let call = wild::call(&mut hand, &world);
         // One arm in 12 is broken for one call.
-        let whole = (wild.random.below(12) == 0).then(|| world.clone());
+        let whole = hand.rng.one_in(12).then(|| world.clone());
         if whole.is_some() {
-            wild.damage(&mut world);
+            wild::damage(&mut hand.rng, &mut world);
         }
         let before = world.clone();
         let came = call.make(&mut world);

@@ -1,18 +1,13 @@
 //! From a state and tables to an arm: what is broken is refused, what is stale is worked out anew.
 
+use crate::given::hinge;
 use crate::memory::{bits, same};
 use crate::refusals::BROKEN;
 use giellavor::{Arm, BLOCK, LINKS, NewCoupling, NewLink, Pose, Refusal, TABLES, Tag, abi, axis};
 
 /// The arm that the ways to break one are for.
 fn arm() -> Arm {
-    let mut arm = Arm::new();
-    arm.add_link(NewLink::fixed(10, 0)).unwrap();
-    arm.add_link(NewLink {
-        frame1: Pose::at(1.0, 0.0),
-        ..NewLink::hinged(11, 0)
-    })
-    .unwrap();
+    let mut arm = hinge();
     arm.add_link(NewLink::free(12, 1)).unwrap();
     arm.add_link(NewLink::fixed(13, 0)).unwrap();
     arm.add_coupling(NewCoupling::between(1, 2, 2, 2)).unwrap();

@@ -1,9 +1,9 @@
 //! Links named by tag, in every method that names one: the same as by number, and refused by 4 where the tag is gone, unless a lower refusal applies.
 
+use crate::given::{FORCE, LIMITS, SPRING};
 use crate::memory::{ORIGIN, same};
 use giellavor::{
-    Arm, COUPLINGS, Force, LINKS, Lent, Limits, NewCoupling, NewLink, Pose, Refusal, Role, RowName, Split, Spring, Tag,
-    Which, axis,
+    Arm, COUPLINGS, LINKS, Lent, NewCoupling, NewLink, Pose, Refusal, Role, RowName, Split, Spring, Tag, Which, axis,
 };
 
 /// The tags of a fixed root, a free link on it, and on that a hinged and a free one. No number is a tag.
@@ -37,24 +37,6 @@ fn lend<T>(n: usize, call: impl FnOnce(Lent) -> T) -> T {
         wj: &mut wj,
     })
 }
-
-const SPRING: Spring = Spring {
-    stiffness: 1.0,
-    rest: 0.5,
-};
-const LIMITS: Limits = Limits {
-    position: 2.0,
-    min: -1.0,
-    max: 1.0,
-    dt: 0.1,
-    erp_inv_dt: 10.0,
-    cfm_coeff: 0.5,
-};
-const FORCE: Force = Force {
-    x: 1.0,
-    y: 0.5,
-    torque: 0.25,
-};
 
 type Method = fn(&mut Arm, Which) -> Result<String, Refusal>;
 

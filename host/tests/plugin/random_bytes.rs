@@ -1,81 +1,97 @@
 //! Random bytes of every length from 0 to 40 as parents and as masks, with any link number, mask and length of output, and guard
 //! bytes around the output: nothing panics, nothing past what is needed changes, and the answers are those of the plain reading.
 
-use crate::random::Random;
-use crate::reading::{self, Answer, Split};
 use crate::size::calls;
+use generate::Rng;
 use giellavor::{Refusal, masks, split, tree};
+use plain::split::{Split, split_map};
 
 const GUARD: usize = 16;
 
 /// Any bytes, small ones, or each below its place: the last are parents that fit.
-fn any_bytes(random: &mut Random, n: usize) -> Vec<u8> {
-    let kind = random.below(4);
+fn any_bytes(rng: &mut Rng, n: usize) -> Vec<u8> {
+    let kind = rng.below(4);
     (0..n)
         .map(|place| match kind {
-            0 => random.next() as u8,
-            1 => random.below(9) as u8,
-            2 => random.below(8) as u8,
-            _ => random.below(place.max(1)) as u8,
+            0 => rng.bits() as u8,
+            1 => rng.below(9) as u8,
+            2 => rng.below(8) as u8,
+            _ => rng.below(place.max(1)) as u8,
         })
         .collect()
 }
 
-/// Calls with an output of `room` random bytes between guards, and holds what came of it against the plain reading.
-fn held(random: &mut Random, room: usize, read: Answer, call: impl Fn(&mut [u8]) -> Result<usize, Refusal>) -> bool {
-    let mut memory = any_bytes(random, room + 2 * GUARD);
+/// Both sides over the same random bytes between guards, so many of them lent: they answer alike and leave the same. Was it done?
+fn agree(
+    rng: &mut Rng,
+    room: usize,
+    ours: impl Fn(&mut [u8]) -> Result<usize, Refusal>,
+    plain: impl Fn(&mut [u8]) -> plain::Answer<usize>,
+) -> bool {
+    let mut memory = any_bytes(rng, room + 2 * GUARD);
     let mut expected = memory.clone();
-    let answer = call(&mut memory[GUARD..GUARD + room]).map_err(|refusal| refusal.number());
-    let told = read.map(|(count, bytes)| {
-        expected[GUARD..GUARD + bytes.len()].copy_from_slice(&bytes);
-        count
-    });
+    let answer = ours(&mut memory[GUARD..GUARD + room]).map_err(Refusal::number);
+    let told = plain(&mut expected[GUARD..GUARD + room]).map_err(plain::Refusal::number);
     assert_eq!(answer, told);
     assert_eq!(memory, expected);
     answer.is_ok()
 }
 
+/// The plain reading's default damping as bytes. Those that are needed are asked for of a number that is no mask too.
+fn damping(mask: u32, bytes: &mut [u8]) -> plain::Answer<usize> {
+    plain::Refusal::Short.when(bytes.len() < 4 * plain::masks::dofs(mask as u8))?;
+    let counts = plain::masks::counts(mask, 0, 0)?;
+    for (place, entry) in bytes.chunks_mut(4).zip(counts.damping()) {
+        place.copy_from_slice(&entry.to_le_bytes());
+    }
+    Ok(counts.dofs)
+}
+
 #[test]
 fn random_bytes_of_every_length() {
-    let mut random = Random(3);
+    let rng = &mut Rng::new(3, 0);
     let (mut made, mut accepted) = (0, 0);
     for n in 0..=40 {
         for _ in 0..calls() / 200 {
-            let bytes = any_bytes(&mut random, n);
-            let link = random.number(n + 2);
-            let mask = random.number(9);
-            let any_room = random.below(90);
-            let rooms = [any_room, 2 * n + random.below(3)];
-            for room in rooms {
-                accepted += usize::from(held(
-                    &mut random,
-                    room,
-                    reading::split(&bytes, Split::Delete(link), room),
-                    |map| split::delete(&bytes, link, map),
-                ));
-                accepted += usize::from(held(
-                    &mut random,
-                    room,
-                    reading::split(&bytes, Split::Cut(link), room),
-                    |map| split::cut(&bytes, link, map),
-                ));
-                accepted += usize::from(held(&mut random, room, reading::starts(&bytes, room), |starts| {
-                    masks::starts(&bytes, starts)
-                }));
-                accepted += usize::from(held(
-                    &mut random,
-                    room % 20,
-                    reading::branch(&bytes, link, room % 20),
-                    |branch| tree::kinematic_branch(&bytes, link, branch),
-                ));
-                let room = room % 20;
-                accepted += usize::from(held(
-                    &mut random,
-                    room,
-                    reading::default_damping(mask, room),
-                    |damping| masks::default_damping(mask, damping),
-                ));
-                made += 5;
+            let bytes = &any_bytes(rng, n);
+            let wide: &Vec<u32> = &bytes.iter().copied().map(u32::from).collect();
+            let (link, mask) = (rng.number(n + 2), rng.number(9));
+            for room in [rng.below(90), 2 * n + rng.below(3)] {
+                let small = room % 20;
+                let answers = [
+                    agree(
+                        rng,
+                        room,
+                        |map| split::delete(bytes, link, map),
+                        |map| split_map(bytes, Split::Delete, link, map),
+                    ),
+                    agree(
+                        rng,
+                        room,
+                        |map| split::cut(bytes, link, map),
+                        |map| split_map(bytes, Split::Cut, link, map),
+                    ),
+                    agree(
+                        rng,
+                        room,
+                        |starts| masks::starts(bytes, starts),
+                        |starts| plain::masks::starts(wide, starts),
+                    ),
+                    agree(
+                        rng,
+                        small,
+                        |branch| tree::kinematic_branch(bytes, link, branch),
+                        |branch| plain::tree::branch(bytes, link, branch),
+                    ),
+                    agree(
+                        rng,
+                        small,
+                        |bytes| masks::default_damping(mask, bytes),
+                        |bytes| damping(mask, bytes),
+                    ),
+                ];
+                made += answers.len();
+                accepted += answers.into_iter().filter(|&done| done).count();
             }
         }
     }
