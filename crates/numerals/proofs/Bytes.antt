@@ -1,14 +1,17 @@
 -- A number's bytes, over their width: they give the number back, and bytes give themselves back. Assumes nothing.
 use mathlib.Core.Path.{_≡_, refl, sym, ap, _∙_}
 use mathlib.Core.Bool.{true}
-use mathlib.Core.List.{List, [], _∷_}
-use Prim.Native.Nat.{ℕ, zero, suc, _+_, _*_, _/_, _%_, _^_, _<_}
+use mathlib.Core.List.{List, [], _∷_, _++_, append-assoc}
+use Prim.Native.Nat.{ℕ, zero, suc, _+_, _-_, _*_, _/_, _%_, _^_, _≤_, _<_}
 use native.Mathlib.Nat.{mod-lt, div-add-mod', div-lt-iff-lt-mul, pow-suc}
 use native.Mathlib.Omega.{arith}
 use borrow.Author.Tests.{ltb-true, lt-ltb}
 use lib.Dec.{ltb}
-use lib.ListN.{length, getD, take, drop}
+use lib.ListN.{length, getD, take, drop, length-drop, take-append-drop}
+use lib.Seq.{take-at, drop-at, drop-drop, length-take-le}
 use Rattle.refusal.proofs.Tests.{both-hold, both}
+use Rattle.numerals.proofs.Storing.{room}
+use Rattle.numerals.specs.Written.{Written, written, bytesWritten}
 use Rattle.numerals.specs.Bytes.{littleEndian, numberOf, numberAt, areBytes}
 
 pub as-wide : (width n : ℕ) → length (littleEndian width n) ≡ width
@@ -50,6 +53,33 @@ number-fits (b ∷ bs) e =
     let l = ltb-true b 256 (p .0) in
     let h = number-fits bs (p .1) in
     rw pow-suc (omega arith)
+
+-- ---- in a buffer, where they fit
+
+module _ (width at : ℕ) (out : List ℕ) (fits : at + width ≤ length out) where
+  -- a number that was written is read there
+  pub read-back : (n : ℕ) → n < 256 ^ width → numberAt width (bytesWritten (written at out) (littleEndian width n) .buffer) at ≡ n
+  read-back n h =
+      let bytes = littleEndian width n in
+      let wide : length bytes ≡ width = as-wide width n in
+      let stored = ap (λ (w : Written). w .buffer) (room out at bytes (omega arith)) in
+      let there : drop at (bytesWritten (written at out) bytes .buffer) ≡ bytes ++ drop (at + length bytes) out =
+      ap (drop at) (stored ∙ append-assoc (take at out) bytes _) ∙ drop-at (take at out) _ at (length-take-le at out (omega arith)) in
+      ap (λ (l : List ℕ). numberOf (take width l)) there ∙ ap numberOf (take-at bytes _ width wide) ∙ number-back width n h
+
+  -- a number that was read there is written as it stood
+  pub write-back : areBytes (take width (drop at out)) ≡ true → bytesWritten (written at out) (littleEndian width (numberAt width out at)) ≡ written (at + width) out
+  write-back e =
+      let bytes = take width (drop at out) in
+      let rest : length (drop at out) ≡ length out - at = length-drop at out in
+      let wide : length bytes ≡ width = length-take-le width (drop at out) (omega arith) in
+      let same : littleEndian width (numberOf bytes) ≡ bytes = ap (λ (k : ℕ). littleEndian k (numberOf bytes)) (sym wide) ∙ bytes-back bytes e in
+      let whole : bytes ++ drop (at + width) out ≡ drop at out =
+      ap (λ (l : List ℕ). bytes ++ l) (sym (drop-drop width at out)) ∙ take-append-drop width (drop at out) in
+      ap (bytesWritten (written at out)) same
+      ∙ room out at bytes (omega arith)
+      ∙ ap (λ (k : ℕ). written (at + k) (take at out ++ bytes ++ drop (at + k) out)) wide
+      ∙ ap (written (at + width)) (append-assoc (take at out) bytes _ ∙ ap (λ (l : List ℕ). take at out ++ l) whole ∙ take-append-drop at out)
 
 -- ---- piece by piece; what is missing counts as 0
 
