@@ -1,4 +1,4 @@
-//! What `src/ffi.rs`, `src/abi.rs` and `src/limits.rs` declare is what the Rattle source has, and no other file has `unsafe` code.
+//! What `src/ffi.rs`, `src/archive.rs`, `src/abi.rs` and `src/limits.rs` declare is what the Rattle source has, and only the first two have `unsafe` code.
 
 use crate::source::{code, declared, declared_structs, exported, exported_by, files, host, laid_out, limits};
 
@@ -34,10 +34,10 @@ fn the_limits_are_those_of_the_source() {
 }
 
 #[test]
-fn unsafe_code_stands_in_one_module() {
+fn unsafe_code_stands_only_where_functions_are_declared() {
     let mut others = files(&host().join("src"), ".rs");
     others.extend(files(&host().join("examples"), ".rs"));
-    others.retain(|file| !file.ends_with("src/ffi.rs"));
+    others.retain(|file| !file.ends_with("src/ffi.rs") && !file.ends_with("src/archive.rs"));
     assert!(!others.is_empty());
     for file in others {
         let text = code(&file)

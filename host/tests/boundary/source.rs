@@ -229,7 +229,7 @@ pub fn declared() -> [Functions; 2] {
     let text = code(&host().join("src/ffi.rs"));
     let (calls, timed) = text.split_once("mod timed").unwrap();
     let mut calls = declared_in(calls);
-    calls.extend(asked(&text));
+    calls.extend(asked(&code(&host().join("src/archive.rs"))));
     [calls, declared_in(timed)]
 }
 

@@ -21,19 +21,23 @@ fn any_bytes(rng: &mut Rng, n: usize) -> Vec<u8> {
         .collect()
 }
 
-/// Both sides over the same random bytes between guards, so many of them lent: they answer alike and leave the same. Was it done?
+/// Both sides over the same random bytes between guards, so many of them lent: they answer alike and leave the same, and nothing past what an answer
+/// needs has changed. Was it done?
 fn agree(
     rng: &mut Rng,
     room: usize,
+    needed: impl Fn(usize) -> usize,
     ours: impl Fn(&mut [u8]) -> Result<usize, Refusal>,
     plain: impl Fn(&mut [u8]) -> plain::Answer<usize>,
 ) -> bool {
-    let mut memory = any_bytes(rng, room + 2 * GUARD);
-    let mut expected = memory.clone();
+    let before = any_bytes(rng, room + 2 * GUARD);
+    let (mut memory, mut expected) = (before.clone(), before.clone());
     let answer = ours(&mut memory[GUARD..GUARD + room]).map_err(Refusal::number);
     let told = plain(&mut expected[GUARD..GUARD + room]).map_err(plain::Refusal::number);
     assert_eq!(answer, told);
     assert_eq!(memory, expected);
+    let end = GUARD + answer.map_or(0, needed);
+    assert_eq!((&memory[..GUARD], &memory[end..]), (&before[..GUARD], &before[end..]));
     answer.is_ok()
 }
 
@@ -62,30 +66,35 @@ fn random_bytes_of_every_length() {
                     agree(
                         rng,
                         room,
+                        |_| 2 * n,
                         |map| split::delete(bytes, link, map),
                         |map| split_map(bytes, Split::Delete, link, map),
                     ),
                     agree(
                         rng,
                         room,
+                        |_| 2 * n,
                         |map| split::cut(bytes, link, map),
                         |map| split_map(bytes, Split::Cut, link, map),
                     ),
                     agree(
                         rng,
                         room,
+                        |_| n,
                         |starts| masks::starts(bytes, starts),
                         |starts| plain::masks::starts(wide, starts),
                     ),
                     agree(
                         rng,
                         small,
+                        |count| count,
                         |branch| tree::kinematic_branch(bytes, link, branch),
                         |branch| plain::tree::branch(bytes, link, branch),
                     ),
                     agree(
                         rng,
                         small,
+                        |dofs| 4 * dofs,
                         |bytes| masks::default_damping(mask, bytes),
                         |bytes| damping(mask, bytes),
                     ),

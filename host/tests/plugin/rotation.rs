@@ -1,4 +1,5 @@
-//! The rotation against the true cosine and sine: over a million angles from -256 to 256, the ends, both zeros and denormals among them.
+//! The rotation against the plain reading, bit for bit, and against the true cosine and sine: over a million angles from -256 to 256, the ends, both
+//! zeros and denormals among them.
 
 use crate::size::{CALLS, calls};
 use giellavor::Refusal;
@@ -9,6 +10,12 @@ const TOLERANCE: f64 = 0.000001;
 fn check(angle: f32) {
     let answer = rotate(angle).unwrap_or_else(|why| panic!("{angle:e}: {why}"));
     let (sine, cosine) = f64::from(angle).sin_cos();
+    let plain = plain::Rotation::at(angle).unwrap();
+    assert_eq!(
+        [answer.re, answer.im].map(f32::to_bits),
+        plain.floats().map(f32::to_bits),
+        "{angle:e}"
+    );
     let (re, im) = (f64::from(answer.re), f64::from(answer.im));
     assert!(
         (re - cosine).abs() <= TOLERANCE && (im - sine).abs() <= TOLERANCE,
