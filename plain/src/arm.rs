@@ -9,6 +9,8 @@ use crate::pose::Pose;
 use crate::refusal::{Answer, Refusal, Refusal::*};
 use crate::rotation::is_wound;
 
+pub use script::RowName;
+
 /// What is kept of a link's place: its world pose and the shifts that carry Jacobians to its centre of mass.
 #[derive(Clone, Copy, Debug, PartialEq)]
 #[repr(C)]
@@ -85,17 +87,6 @@ impl Coupling {
 
 /// A float for each DoF, and places for more.
 pub type Row = [f32; DOFS];
-
-/// The five rows.
-#[derive(Clone, Copy, Debug, PartialEq, Eq)]
-#[repr(u8)]
-pub enum RowName {
-    Velocities,
-    Damping,
-    Armature,
-    Frictions,
-    Accelerations,
-}
 
 pub const ROWS: usize = 5;
 

@@ -47,23 +47,6 @@ fn point([x, y]: [f32; 2]) -> Point {
     Point { x, y }
 }
 
-fn row_name(row: script::RowName) -> RowName {
-    match row {
-        script::RowName::Velocities => RowName::Velocities,
-        script::RowName::Damping => RowName::Damping,
-        script::RowName::Armature => RowName::Armature,
-        script::RowName::Frictions => RowName::Frictions,
-        script::RowName::Accelerations => RowName::Accelerations,
-    }
-}
-
-fn split(how: script::Split) -> Split {
-    match how {
-        script::Split::Delete => Split::Delete,
-        script::Split::Cut => Split::Cut,
-    }
-}
-
 fn told(row: ConstraintRow) -> script::ConstraintRow {
     script::ConstraintRow {
         bounds: [row.lower, row.upper],
@@ -110,8 +93,8 @@ impl script::Engine for Engine {
         Ok(self.arm.add_coupling(new.links, new.axes, new.coeff, new.offset)?)
     }
 
-    fn write_row(&mut self, row: script::RowName, link: u32, axis: u32, value: f32) -> Answer {
-        Ok(self.arm.write_row(row_name(row), link, axis, value)?)
+    fn write_row(&mut self, row: RowName, link: u32, axis: u32, value: f32) -> Answer {
+        Ok(self.arm.write_row(row, link, axis, value)?)
     }
 
     fn set_spring(&mut self, link: u32, axis: u32, stiffness: f32, rest: f32) -> Answer {
@@ -143,18 +126,14 @@ impl script::Engine for Engine {
         Ok(arm.step(tables, dt)?)
     }
 
-    fn change_root(&mut self, lent: usize, to: script::RootType, at: script::Pose) -> Answer {
+    fn change_root(&mut self, lent: usize, to: RootType, at: script::Pose) -> Answer {
         let (arm, tables) = self.lent(lent);
-        let to = match to {
-            script::RootType::Free => RootType::Free,
-            script::RootType::Fixed => RootType::Fixed,
-        };
         Ok(arm.change_root(tables, to, pose(at))?)
     }
 
-    fn take_part(&mut self, lent: usize, how: script::Split, link: u32, part: u32) -> Answer {
+    fn take_part(&mut self, lent: usize, how: Split, link: u32, part: u32) -> Answer {
         let (arm, tables) = self.lent(lent);
-        *arm = arm.part(split(how), link, part, tables)?;
+        *arm = arm.part(how, link, part, tables)?;
         Ok(())
     }
 
@@ -166,11 +145,7 @@ impl script::Engine for Engine {
         Ok(self.arm.kinematic_branch(link, branch)?)
     }
 
-    fn view(&self, role: script::Role, link: u32, lent: usize) -> Answer<Vec<f32>> {
-        let role = match role {
-            script::Role::Velocities => Role::Velocities,
-            script::Role::Accelerations => Role::Accelerations,
-        };
+    fn view(&self, role: Role, link: u32, lent: usize) -> Answer<Vec<f32>> {
         let row = |row: RowName| &self.arm.row(row)[..DOFS.min(lent)];
         let (velocities, accelerations) = (row(RowName::Velocities), row(RowName::Accelerations));
         Ok(self.arm.row_view(role, link, velocities, accelerations)?.to_vec())
@@ -180,8 +155,8 @@ impl script::Engine for Engine {
         Ok(self.arm.jacobian_mul_coordinates(link, accelerations)?)
     }
 
-    fn split(&self, how: script::Split, link: u32, map: &mut [u8]) -> Answer<usize> {
-        Ok(self.arm.split(split(how), link, map)?)
+    fn split(&self, how: Split, link: u32, map: &mut [u8]) -> Answer<usize> {
+        Ok(self.arm.split(how, link, map)?)
     }
 
     fn masks(&self, locked: u32, limit: u32, motor: u32) -> Answer<MaskCounts> {
@@ -210,22 +185,14 @@ impl script::Engine for Engine {
         mass: &[f32],
         link: u32,
         axis: u32,
-        limit: &script::Limit,
+        limit: &Limit,
         [j, wj]: [&mut [f32]; 2],
     ) -> Answer<script::ConstraintRow> {
-        let limit = Limit {
-            pos: limit.pos,
-            min: limit.min,
-            max: limit.max,
-            dt: limit.dt,
-            erp_inv_dt: limit.erp_inv_dt,
-            cfm_coeff: limit.cfm_coeff,
-        };
         Ok(told(self.arm.limit_row(
             mass,
             link,
             axis,
-            &limit,
+            limit,
             &mut Vectors { j, wj },
         )?))
     }
@@ -291,8 +258,8 @@ impl script::Engine for Engine {
         }
     }
 
-    fn row(&self, row: script::RowName) -> Cow<'_, [f32]> {
-        Cow::Borrowed(self.arm.row(row_name(row)))
+    fn row(&self, row: RowName) -> Cow<'_, [f32]> {
+        Cow::Borrowed(self.arm.row(row))
     }
 
     fn kept(&self, link: usize) -> Kept {

@@ -7,11 +7,7 @@ use crate::limits::{AXES, TABLES};
 use crate::pose::Pose;
 use crate::refusal::{Answer, Refusal::*};
 
-#[derive(Clone, Copy, Debug, PartialEq, Eq)]
-pub enum RootType {
-    Free,
-    Fixed,
-}
+pub use script::RootType;
 
 impl Arm {
     /// Put the root at a pose, free or fixed, and work everything out. With the type the root's row entries come or go.

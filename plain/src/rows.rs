@@ -8,6 +8,8 @@ use crate::masks::is_axis;
 use crate::refusal::{Answer, Refusal, Refusal::*};
 use crate::solve::solve_in_place;
 
+pub use script::Limit;
+
 /// What a constraint row says besides its two vectors.
 #[derive(Clone, Copy, Debug, PartialEq)]
 pub struct ConstraintRow {
@@ -18,35 +20,18 @@ pub struct ConstraintRow {
     pub inv_lhs: f32,
 }
 
-/// What the host gives for a limit.
-#[derive(Clone, Copy, Debug)]
-pub struct Limit {
-    pub pos: f32,
-    pub min: f32,
-    pub max: f32,
-    pub dt: f32,
-    pub erp_inv_dt: f32,
-    pub cfm_coeff: f32,
+/// Bounds of a limit's impulse; at rest the lower one is minus zero.
+fn bounds(limit: &Limit) -> (f32, f32) {
+    (
+        if limit.pos < limit.min { -f32::MAX } else { -0.0 },
+        if limit.max < limit.pos { f32::MAX } else { 0.0 },
+    )
 }
 
-impl Limit {
-    fn is_finite(&self) -> bool {
-        finite(&[self.pos, self.min, self.max, self.dt, self.erp_inv_dt, self.cfm_coeff])
-    }
-
-    /// Bounds of the impulse; at rest the lower one is minus zero.
-    fn bounds(&self) -> (f32, f32) {
-        (
-            if self.pos < self.min { -f32::MAX } else { -0.0 },
-            if self.max < self.pos { f32::MAX } else { 0.0 },
-        )
-    }
-
-    /// How fast the axis is to come back.
-    fn rhs(&self) -> f32 {
-        let past = |distance: f32| if distance > 0.0 { distance } else { 0.0 };
-        0.0 + (past(self.pos - self.max) - past(self.min - self.pos)) * self.erp_inv_dt
-    }
+/// How fast the axis is to come back.
+fn rhs(limit: &Limit) -> f32 {
+    let past = |distance: f32| if distance > 0.0 { distance } else { 0.0 };
+    0.0 + (past(limit.pos - limit.max) - past(limit.min - limit.pos)) * limit.erp_inv_dt
 }
 
 /// A vector and its solve, in memory that the caller lends.
@@ -80,12 +65,19 @@ impl Arm {
         self.tested(|rule| {
             self.row_breaks(rule, n, mass, link, axis, out)
                 || match rule {
-                    NotFinite => !limit.is_finite(),
+                    NotFinite => !finite(&[
+                        limit.pos,
+                        limit.min,
+                        limit.max,
+                        limit.dt,
+                        limit.erp_inv_dt,
+                        limit.cfm_coeff,
+                    ]),
                     Reversed => limit.min > limit.max,
                     _ => false,
                 }
         })?;
-        self.unit_row(n, mass, link, axis, limit.bounds(), limit.rhs(), limit.cfm_coeff, out)
+        self.unit_row(n, mass, link, axis, bounds(limit), rhs(limit), limit.cfm_coeff, out)
     }
 
     /// The row that rubs on an axis, by the arm's own friction.

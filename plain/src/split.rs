@@ -6,13 +6,7 @@ use crate::kinematics::{blocks_of, full_working};
 use crate::limits::{LINKS, TABLES};
 use crate::refusal::{Answer, Refusal::*};
 
-#[derive(Clone, Copy, Debug, PartialEq, Eq)]
-pub enum Split {
-    /// The link itself goes.
-    Delete,
-    /// Only its joint goes.
-    Cut,
-}
+pub use script::Split;
 
 /// Stands for the part and the number of a link that is gone.
 pub const GONE: u8 = 255;
@@ -26,47 +20,45 @@ struct Parts {
     places: [[u8; 2]; LINKS],
 }
 
-impl Split {
-    fn is_head(self, i: usize, parent: usize, link: usize) -> bool {
-        match self {
-            Split::Delete => i != link && (i == 0 || parent == link),
-            Split::Cut => i == 0 || i == link,
-        }
+fn is_head(how: Split, i: usize, parent: usize, link: usize) -> bool {
+    match how {
+        Split::Delete => i != link && (i == 0 || parent == link),
+        Split::Cut => i == 0 || i == link,
     }
+}
 
-    /// How many parts there will be.
-    fn part_count(self, links: &[Link], link: usize) -> usize {
-        parents_of(links)
-            .enumerate()
-            .filter(|&(i, parent)| self.is_head(i, parent as usize, link))
-            .count()
-    }
+/// How many parts there will be.
+fn part_count(how: Split, links: &[Link], link: usize) -> usize {
+    parents_of(links)
+        .enumerate()
+        .filter(|&(i, parent)| is_head(how, i, parent as usize, link))
+        .count()
+}
 
-    /// Parts are counted by their heads, and a part's links by their order in the old arm.
-    fn parts(self, parents: impl Iterator<Item = u8>, link: usize) -> Parts {
-        let mut parts = Parts {
-            count: 0,
-            heads: 0,
-            places: [[GONE; 2]; LINKS],
+/// Parts are counted by their heads, and a part's links by their order in the old arm.
+fn parts_of(how: Split, parents: impl Iterator<Item = u8>, link: usize) -> Parts {
+    let mut parts = Parts {
+        count: 0,
+        heads: 0,
+        places: [[GONE; 2]; LINKS],
+    };
+    let mut sizes = [0; LINKS];
+    for (i, parent) in parents.enumerate() {
+        let parent = parent as usize;
+        let part = if is_head(how, i, parent, link) {
+            parts.heads |= 1 << i;
+            parts.count += 1;
+            parts.count as u8 - 1
+        } else if how == Split::Delete && i == link {
+            continue;
+        } else {
+            parts.part(parent)
         };
-        let mut sizes = [0; LINKS];
-        for (i, parent) in parents.enumerate() {
-            let parent = parent as usize;
-            let part = if self.is_head(i, parent, link) {
-                parts.heads |= 1 << i;
-                parts.count += 1;
-                parts.count as u8 - 1
-            } else if self == Split::Delete && i == link {
-                continue;
-            } else {
-                parts.part(parent)
-            };
-            let size = &mut sizes[part as usize];
-            parts.places[i] = [part, *size];
-            *size += 1;
-        }
-        parts
+        let size = &mut sizes[part as usize];
+        parts.places[i] = [part, *size];
+        *size += 1;
     }
+    parts
 }
 
 impl Parts {
@@ -97,7 +89,7 @@ pub fn split_map(parents: &[u8], how: Split, link: u32, map: &mut [u8]) -> Answe
     Short.when(map.len() < 2 * parents.len())?;
     Full.when(parents.len() > LINKS)?;
     Number.when(link as usize >= parents.len() || misplaces(parents))?;
-    let parts = how.parts(parents.iter().copied(), link as usize);
+    let parts = parts_of(how, parents.iter().copied(), link as usize);
     parts.write(parents.len(), map);
     Ok(parts.count)
 }
@@ -111,7 +103,7 @@ impl Arm {
             Number => !self.has_link(link),
             _ => false,
         })?;
-        let parts = how.parts(parents_of(links), link as usize);
+        let parts = parts_of(how, parents_of(links), link as usize);
         parts.write(links.len(), map);
         Ok(parts.count)
     }
@@ -120,10 +112,10 @@ impl Arm {
     pub fn part(&self, how: Split, link: u32, part: u32, tables: &mut [f32]) -> Answer<Arm> {
         self.tested(|rule| match rule {
             Short => tables.len() < TABLES,
-            Number => !self.has_link(link) || part as usize >= how.part_count(self.links(), link as usize),
+            Number => !self.has_link(link) || part as usize >= part_count(how, self.links(), link as usize),
             _ => false,
         })?;
-        let parts = how.parts(parents_of(self.links()), link as usize);
+        let parts = parts_of(how, parents_of(self.links()), link as usize);
         let mut arm = self.taken_apart(&parts, part as u8);
         let kept = full_working(arm.link_count, |i| &arm.links[i], blocks_of(tables))?;
         arm.keep(&kept);

@@ -9,6 +9,8 @@ use crate::masks::{self, is_axis, is_mask};
 use crate::point::Point;
 use crate::pose::Pose;
 use crate::refusal::{Answer, Refusal::*};
+
+pub use script::Role;
 use std::iter::successors;
 
 /// A link as a caller asks for it.
@@ -22,13 +24,6 @@ pub struct NewLink {
     pub frame1: Pose,
     pub frame2: Pose,
     pub com: Point,
-}
-
-/// Which of a view's two slices.
-#[derive(Clone, Copy, Debug, PartialEq, Eq)]
-pub enum Role {
-    Velocities,
-    Accelerations,
 }
 
 /// The links from this one up to the root, as far as parents are earlier; none without such a link.

@@ -3,9 +3,8 @@
 //! What a script's answer doesn't show is looked at here: that a refused call left the arm and its tables as they were, that none wrote tables which it
 //! wasn't lent, and that functions which answer the same question agree.
 
-use crate::bits::{same_arms, same_floats};
-use crate::terms::{floats_of, point, pose};
-use giellavor::abi::{Arm, Edited, Force, Limits, NewCoupling, NewLink, Spring};
+use crate::terms::{floats_of, limits, new_coupling, new_link, point, pose};
+use giellavor::abi::{Arm, Edited, Force, Spring};
 use giellavor::{DOFS, LINKS, TABLES, ffi, masks};
 use script::limits::{AXES, LENT, PAST};
 use script::{
@@ -35,6 +34,12 @@ fn told(returned: i32) -> Answer<usize> {
         Ok(count) => Ok(count),
         Err(_) => Err(No::Refused(u8::try_from(returned.unsigned_abs()).unwrap_or(u8::MAX))),
     }
+}
+
+/// Whether no bit differs; that is seen without a branch for each float.
+fn same_floats(a: &[f32], b: &[f32]) -> bool {
+    let pairs = a.iter().zip(b);
+    a.len() == b.len() && pairs.fold(0, |bits, (a, b)| bits | (a.to_bits() ^ b.to_bits())) == 0
 }
 
 /// What must hold of an answer, in words for where it doesn't.
@@ -81,7 +86,7 @@ impl Lent {
         let arm = *self.arm();
         let refusal = call(&mut self.edited);
         held(self.edited.refusal == refusal, "told two refusals")?;
-        let kept = refusal == 0 || same_arms(&arm, self.arm());
+        let kept = refusal == 0 || arm.bits().eq(self.arm().bits());
         held(kept, "refused, and the arm changed")?;
         refused(refusal)
     }
@@ -123,29 +128,11 @@ impl Engine for Lent {
     }
 
     fn add_link(&mut self, lent: usize, new: &script::NewLink) -> Answer {
-        let link = NewLink {
-            tag: new.tag,
-            parent: new.parent,
-            locked: new.locked,
-            limit: new.limit,
-            motor: new.motor,
-            frame1: pose(new.frame1),
-            frame2: pose(new.frame2),
-            centre: point(new.com),
-        };
-        self.call(lent, |edited, tables| ffi::add_link(edited, tables, link))
+        self.call(lent, |edited, tables| ffi::add_link(edited, tables, new_link(new)))
     }
 
     fn add_coupling(&mut self, new: &script::NewCoupling) -> Answer {
-        let coupling = NewCoupling {
-            link1: new.links[0],
-            axis1: new.axes[0],
-            link2: new.links[1],
-            axis2: new.axes[1],
-            coefficient: new.coeff,
-            offset: new.offset,
-        };
-        self.edit(|edited| ffi::add_coupling(edited, coupling))
+        self.edit(|edited| ffi::add_coupling(edited, new_coupling(new)))
     }
 
     fn write_row(&mut self, row: RowName, link: u32, axis: u32, value: f32) -> Answer {
@@ -321,14 +308,7 @@ impl Engine for Lent {
         limit: &Limit,
         [j, wj]: [&mut [f32]; 2],
     ) -> Answer<ConstraintRow> {
-        let given = Limits {
-            position: limit.pos,
-            min: limit.min,
-            max: limit.max,
-            dt: limit.dt,
-            erp_inv_dt: limit.erp_inv_dt,
-            cfm_coeff: limit.cfm_coeff,
-        };
+        let given = limits(limit);
         row_of(&ffi::limit_row(self.arm(), link, axis, given, mass, j, wj))
     }
 

@@ -3,7 +3,6 @@
 
 mod terms;
 
-mod bits;
 mod lent;
 
 mod owned;

@@ -2,10 +2,10 @@
 //!
 //! It can't be handed a broken arm or short memory: such commands aren't asked of it.
 
-use crate::terms::{floats_of, point, pose};
+use crate::terms::{floats_of, limits, new_coupling, new_link, point, pose};
 use giellavor::{
-    Arm, Force, Lent, Limits, LinkView, NewCoupling, NewLink, Refusal, Role, RowName, Spring, TABLES, Tag, Which,
-    masks, rotation, solve,
+    Arm, Force, Lent, LinkView, NewCoupling, NewLink, Refusal, Role, RowName, Spring, TABLES, Which, masks, rotation,
+    solve,
 };
 use script::limits::AXES;
 use script::{Answer, ConstraintRow, Coupling, Engine, Kept, Limit, LinkState, MaskCounts, No, Poke, RootType, Split};
@@ -90,14 +90,8 @@ impl Engine for Owned {
 
     fn add_link(&mut self, lent: usize, new: &script::NewLink) -> Answer {
         let link = NewLink {
-            tag: Tag(new.tag),
             parent: self.which(new.parent),
-            locked: new.locked,
-            limit: new.limit,
-            motor: new.motor,
-            frame1: pose(new.frame1),
-            frame2: pose(new.frame2),
-            centre: point(new.com),
+            ..new_link(new).into()
         };
         let number = self.arm.link_count();
         let mut added = number;
@@ -114,11 +108,8 @@ impl Engine for Owned {
     fn add_coupling(&mut self, new: &script::NewCoupling) -> Answer {
         let coupling = NewCoupling {
             link1: self.which(new.links[0]),
-            axis1: new.axes[0],
             link2: self.which(new.links[1]),
-            axis2: new.axes[1],
-            coefficient: new.coeff,
-            offset: new.offset,
+            ..new_coupling(new).into()
         };
         self.arm.add_coupling(coupling).map_err(no)
     }
@@ -264,14 +255,7 @@ impl Engine for Owned {
         limit: &Limit,
         [j, wj]: [&mut [f32]; 2],
     ) -> Answer<ConstraintRow> {
-        let limits = Limits {
-            position: limit.pos,
-            min: limit.min,
-            max: limit.max,
-            dt: limit.dt,
-            erp_inv_dt: limit.erp_inv_dt,
-            cfm_coeff: limit.cfm_coeff,
-        };
+        let limits = limits(limit);
         let row = self.arm.limit_row(self.which(link), axis, limits, Lent { mass, j, wj });
         row.map(row_of).map_err(no)
     }
