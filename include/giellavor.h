@@ -9,11 +9,8 @@
  *   - A slice that is written overlaps no other slice of the same call. Slices that are only read may be one and the same.
  *   - No other thread writes a slice during the call, nor reads one that is written.
  *
- * A call that is refused has changed nothing that was lent. A refusal is a number from 1 to 12, the lowest that applies, and 0 is none. Where to find it:
- *
- *   - of a struct that is returned, it is the field `refusal`; the rest is then zeros, and an arm the one that came;
- *   - of a `uint8_t` that is returned, it is that number;
- *   - of an `int32_t` that is returned, it is minus that number; 0 and above are a count. */
+ * Every call that can be refused returns a struct with a field `refusal`: 0, or a number from 1 to 12, the lowest that applies. Beside it stands what is
+ * asked for: a count, an arm or floats. Where refused that is zeros, an arm the one that came, and nothing that was lent has changed. */
 #ifndef GIELLAVOR_H
 #define GIELLAVOR_H
 
@@ -177,7 +174,7 @@ typedef struct GiellavorRotated {
     GiellavorRotation rotation;
 } GiellavorRotated;
 
-/* A count of DoFs. */
+/* A count of DoFs or of constraints. */
 typedef struct GiellavorCount {
     uint8_t refusal;
     uint8_t count;
@@ -229,30 +226,32 @@ typedef struct GiellavorSums {
 
 /* A link is deleted: part and new number of each old link, two bytes a link into `map`, 255 and 255 for the deleted one; returned is the part
  * count. Refused: 1, 2, 4. */
-int32_t giellavor_split_delete(const uint8_t *parents, size_t parents_len, uint32_t link, uint8_t *map, size_t map_len);
+GiellavorCounted giellavor_split_delete(const uint8_t *parents, size_t parents_len, uint32_t link, uint8_t *map, size_t map_len);
 
 /* A link's joint is cut: part and new number of each link, two bytes a link into `map`; returned is the part count. Refused: 1, 2, 4. */
-int32_t giellavor_split_cut(const uint8_t *parents, size_t parents_len, uint32_t link, uint8_t *map, size_t map_len);
+GiellavorCounted giellavor_split_cut(const uint8_t *parents, size_t parents_len, uint32_t link, uint8_t *map, size_t map_len);
 
 /* The DoF count of a mask. Refused: 5. */
-int32_t giellavor_dof_count(uint32_t mask);
+GiellavorCount giellavor_dof_count(uint32_t mask);
 
 /* The start of each mask of a list, a byte a mask into `starts`; returned is the total. Refused: 1, 2, 5. */
-int32_t giellavor_starts(const uint8_t *masks, size_t masks_len, uint8_t *starts, size_t starts_len);
+GiellavorCount giellavor_starts(const uint8_t *masks, size_t masks_len, uint8_t *starts, size_t starts_len);
 
 /* How many velocity constraints a joint makes. Refused: 5. */
-int32_t giellavor_num_velocity_constraints(uint32_t locked, uint32_t limit, uint32_t motor);
+GiellavorCount giellavor_num_velocity_constraints(uint32_t locked, uint32_t limit, uint32_t motor);
 
 /* The default damping of a mask, as f32 bits, lowest byte first, four bytes a DoF into `damping`; returned is the DoF count. Refused: 1, 5. */
-int32_t giellavor_default_damping(uint32_t mask, uint8_t *damping, size_t damping_len);
+GiellavorCount giellavor_default_damping(uint32_t mask, uint8_t *damping, size_t damping_len);
 
 /* ---- Numbers */
 
 /* The rotation of an angle. Refused: 7, 9. */
 GiellavorRotated giellavor_rotate(float angle);
 
-/* The solve of an n by n matrix, in rows, against a right side; the solution goes into the first n floats of `result`. Refused: 1, 2, 7, 11, 12. */
-uint8_t giellavor_solve(size_t n, const float *matrix, size_t matrix_len, const float *right, size_t right_len, float *result, size_t result_len);
+/* The solve of an n by n matrix, in rows, against a right side; the solution goes into the first n floats of `result`, and n is returned. Refused: 1, 2, 7,
+ * 11, 12. */
+GiellavorCounted giellavor_solve(
+    size_t n, const float *matrix, size_t matrix_len, const float *right, size_t right_len, float *result, size_t result_len);
 
 /* ---- Making an arm */
 

@@ -15,13 +15,13 @@ static void told(const char *call, int refusal)
 
 static void over_bare_lists(void)
 {
-    told("split_delete", -giellavor_split_delete(NOTHING, 0, NOTHING));
-    told("split_cut", -giellavor_split_cut(NOTHING, 0, NOTHING));
-    told("starts", -giellavor_starts(NOTHING, NOTHING));
-    told("default_damping, free", -giellavor_default_damping(0, NOTHING));
-    told("default_damping, locked", -giellavor_default_damping(7, NOTHING));
-    told("solve of 0", giellavor_solve(0, NOTHING, NOTHING, NOTHING));
-    told("solve of 1", giellavor_solve(1, NOTHING, NOTHING, NOTHING));
+    told("split_delete", giellavor_split_delete(NOTHING, 0, NOTHING).refusal);
+    told("split_cut", giellavor_split_cut(NOTHING, 0, NOTHING).refusal);
+    told("starts", giellavor_starts(NOTHING, NOTHING).refusal);
+    told("default_damping, free", giellavor_default_damping(0, NOTHING).refusal);
+    told("default_damping, locked", giellavor_default_damping(7, NOTHING).refusal);
+    told("solve of 0", giellavor_solve(0, NOTHING, NOTHING, NOTHING).refusal);
+    told("solve of 1", giellavor_solve(1, NOTHING, NOTHING, NOTHING).refusal);
     told("branch", giellavor_branch(NOTHING, 0, NOTHING).refusal);
 }
 

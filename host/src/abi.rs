@@ -250,7 +250,7 @@ pub struct Rotated {
     pub rotation: Rotation,
 }
 
-/// A count of DoFs.
+/// A count of DoFs or of constraints.
 #[repr(C)]
 #[derive(Clone, Copy, Debug, PartialEq, Eq)]
 pub struct Count {
@@ -268,6 +268,15 @@ pub struct Counted {
     pub refusal: u8,
     /// How much it holds.
     pub count: usize,
+}
+
+impl From<Count> for Counted {
+    fn from(answer: Count) -> Counted {
+        Counted {
+            refusal: answer.refusal,
+            count: answer.count.into(),
+        }
+    }
 }
 
 /// Where a link's own part of a lent row stands in it.

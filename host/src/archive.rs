@@ -129,14 +129,6 @@ const ARM: Arm = Arm {
     rows: [Row { entries: [0.0; DOFS] }; 5],
 };
 
-impl Answer for u8 {
-    const WRONG: u8 = WRONG;
-}
-
-impl Answer for i32 {
-    const WRONG: i32 = -(WRONG as i32);
-}
-
 impl Answer for Edited {
     const WRONG: Edited = Edited {
         arm: ARM,

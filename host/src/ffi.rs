@@ -2,8 +2,8 @@
 //! a plug-in that keeps its memory itself. `tests/boundary` holds the declarations against the Rattle source.
 //!
 //! Any value of any argument gets an answer. A refusal has a number, [`Refusal::number`](crate::Refusal::number), and then nothing that was lent has
-//! changed: of an answer it is the field `refusal`, 0 for none; an `i32` is a count, or a refusal's number below zero. What edits an [`Edited`] puts the
-//! answer in its place and returns its refusal: a refused one leaves the arm as it was.
+//! changed: it is the answer's field `refusal`, 0 for none, and what stands beside it is zeros where refused. What edits an [`Edited`] puts the answer in
+//! its place and returns its refusal: a refused one leaves the arm as it was.
 //!
 //! An arm's picture is its poses, shifts and tables. It stays fresh where an arm from [`empty`], or from a part of a split, and the tables that it was worked
 //! out into go through these functions together. Whoever writes either by hand, or hands in other tables, calls [`full_working`] first.
@@ -93,22 +93,22 @@ macro_rules! exported {
 exported! {
     /// A link is deleted: part and new number of each old link, two bytes a link into `map`, 255 and 255 for the deleted one; returned is the part
     /// count. Refused: 1, 2, 4.
-    fn split_delete(parents: &[u8], link: u32, map: &mut [u8]) -> i32;
+    fn split_delete(parents: &[u8], link: u32, map: &mut [u8]) -> Counted;
 
     /// A link's joint is cut: part and new number of each link, two bytes a link into `map`; returned is the part count. Refused: 1, 2, 4.
-    fn split_cut(parents: &[u8], link: u32, map: &mut [u8]) -> i32;
+    fn split_cut(parents: &[u8], link: u32, map: &mut [u8]) -> Counted;
 
     /// The DoF count of a mask. Refused: 5.
-    fn dof_count(mask: u32) -> i32;
+    fn dof_count(mask: u32) -> Count;
 
     /// The start of each mask of a list, a byte a mask into `starts`; returned is the total. Refused: 1, 2, 5.
-    fn starts(masks: &[u8], starts: &mut [u8]) -> i32;
+    fn starts(masks: &[u8], starts: &mut [u8]) -> Count;
 
     /// How many velocity constraints a joint makes. Refused: 5.
-    fn num_velocity_constraints(locked: u32, limit: u32, motor: u32) -> i32;
+    fn num_velocity_constraints(locked: u32, limit: u32, motor: u32) -> Count;
 
     /// The default damping of a mask, as f32 bits, lowest byte first, four bytes a DoF into `damping`; returned is the DoF count. Refused: 1, 5.
-    fn default_damping(mask: u32, damping: &mut [u8]) -> i32;
+    fn default_damping(mask: u32, damping: &mut [u8]) -> Count;
 }
 
 // ---- Numbers
@@ -117,9 +117,9 @@ exported! {
     /// The rotation of an angle. Refused: 7, 9.
     fn rotate(angle: f32) -> Rotated;
 
-    /// The solve of an n by n matrix, in rows, against a right side; the solution goes into the first n floats of `result`. Returned is the refusal: 1,
+    /// The solve of an n by n matrix, in rows, against a right side; the solution goes into the first n floats of `result`, and n is returned. Refused: 1,
     /// 2, 7, 11, 12.
-    fn solve(n: usize, matrix: &[f32], right: &[f32], result: &mut [f32]) -> u8;
+    fn solve(n: usize, matrix: &[f32], right: &[f32], result: &mut [f32]) -> Counted;
 }
 
 // ---- Making an arm

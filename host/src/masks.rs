@@ -2,7 +2,7 @@
 
 use crate::Refusal;
 use crate::ffi;
-use crate::refusal::{refused, told};
+use crate::refusal::counted;
 
 /// The DoF count of a locked mask.
 ///
@@ -10,7 +10,7 @@ use crate::refusal::{refused, told};
 ///
 /// [`Refusal::BadMask`].
 pub fn dof_count(mask: u32) -> Result<usize, Refusal> {
-    told(ffi::dof_count(mask))
+    counted(ffi::dof_count(mask))
 }
 
 /// The DoF count of a locked mask below an axis: where among the joint's own DoFs the axis' stands.
@@ -19,9 +19,7 @@ pub fn dof_count(mask: u32) -> Result<usize, Refusal> {
 ///
 /// [`Refusal::BadMask`] for the mask or the axis.
 pub fn dof_count_below(mask: u32, axis: u32) -> Result<usize, Refusal> {
-    let answer = ffi::dof_count_below(mask, axis);
-    refused(answer.refusal)?;
-    Ok(answer.count.into())
+    counted(ffi::dof_count_below(mask, axis))
 }
 
 /// Is an axis of a locked mask free?
@@ -30,9 +28,7 @@ pub fn dof_count_below(mask: u32, axis: u32) -> Result<usize, Refusal> {
 ///
 /// [`Refusal::BadMask`] for the mask or the axis.
 pub fn is_free(mask: u32, axis: u32) -> Result<bool, Refusal> {
-    let answer = ffi::free_axis(mask, axis);
-    refused(answer.refusal)?;
-    Ok(answer.count == 1)
+    Ok(counted(ffi::free_axis(mask, axis))? == 1)
 }
 
 /// Writes the start of each mask of a list, a byte a mask; returned is the total of DoFs.
@@ -41,7 +37,7 @@ pub fn is_free(mask: u32, axis: u32) -> Result<bool, Refusal> {
 ///
 /// [`Refusal::ShortMemory`], [`Refusal::TooMany`] for more masks than an arm has links, and [`Refusal::BadMask`].
 pub fn starts(masks: &[u8], starts: &mut [u8]) -> Result<usize, Refusal> {
-    told(ffi::starts(masks, starts))
+    counted(ffi::starts(masks, starts))
 }
 
 /// How many velocity constraints a joint's limits and motors make.
@@ -50,7 +46,7 @@ pub fn starts(masks: &[u8], starts: &mut [u8]) -> Result<usize, Refusal> {
 ///
 /// [`Refusal::BadMask`] for any of the three.
 pub fn num_velocity_constraints(locked: u32, limit: u32, motor: u32) -> Result<usize, Refusal> {
-    told(ffi::num_velocity_constraints(locked, limit, motor))
+    counted(ffi::num_velocity_constraints(locked, limit, motor))
 }
 
 /// Writes the default damping of a locked mask, four bytes a DoF; returned is the DoF count. [`floats`] reads them.
@@ -59,7 +55,7 @@ pub fn num_velocity_constraints(locked: u32, limit: u32, motor: u32) -> Result<u
 ///
 /// [`Refusal::ShortMemory`] and [`Refusal::BadMask`].
 pub fn default_damping(mask: u32, damping: &mut [u8]) -> Result<usize, Refusal> {
-    told(ffi::default_damping(mask, damping))
+    counted(ffi::default_damping(mask, damping))
 }
 
 /// The floats of a row of bytes, as [`default_damping`] writes them.

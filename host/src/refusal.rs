@@ -1,5 +1,6 @@
 //! Refusals, by the numbers of document 01.
 
+use crate::abi::Counted;
 use std::error::Error;
 use std::fmt;
 
@@ -110,22 +111,24 @@ pub(crate) fn refused(number: u8) -> Result<(), Refusal> {
     Refusal::from_number(number).map_or(Ok(()), Err)
 }
 
-/// What an exported function returned: a count, or a refusal's number below zero. An archive that this crate is for returns no number above 255.
-pub(crate) fn told(returned: i32) -> Result<usize, Refusal> {
-    usize::try_from(returned).or_else(|_| {
-        let number = u8::try_from(returned.unsigned_abs());
-        refused(number.unwrap_or(Refusal::WrongArchive.number())).map(|()| 0)
-    })
+/// The count of an answer that isn't refused.
+pub(crate) fn counted(answer: impl Into<Counted>) -> Result<usize, Refusal> {
+    let Counted { refusal, count } = answer.into();
+    refused(refusal).map(|()| count)
 }
 
 #[cfg(test)]
 mod tests {
     use super::*;
+    use crate::abi::Count;
 
     #[test]
     fn counts_are_told_as_they_are() {
-        for count in [0, 1, 16, 48, i32::MAX] {
-            assert_eq!(told(count), Ok(count as usize));
+        for count in [0, 1, 48, u8::MAX] {
+            assert_eq!(counted(Count { refusal: 0, count }), Ok(count.into()));
+        }
+        for count in [0, 1, 16, usize::MAX] {
+            assert_eq!(counted(Counted { refusal: 0, count }), Ok(count));
         }
     }
 
@@ -134,7 +137,11 @@ mod tests {
         assert_eq!(refused(0), Ok(()));
         for number in 1..=255 {
             assert_eq!(refused(number).err(), Refusal::from_number(number));
-            let told = told(-i32::from(number)).map_err(|refusal| (refusal.number(), refusal.to_string()));
+            let told = counted(Count {
+                refusal: number,
+                count: 0,
+            });
+            let told = told.map_err(|refusal| (refusal.number(), refusal.to_string()));
             let text = format!("refused with {number}: ");
             assert!(told.is_err_and(|(by, said)| by == number && said.len() > text.len() && said.starts_with(&text)));
         }
@@ -146,9 +153,6 @@ mod tests {
             assert_eq!(refused(number), Err(Refusal::Unknown(number)));
         }
         assert_eq!(refused(255), Err(Refusal::WrongArchive));
-        for returned in [-255, -256, -300, i32::MIN] {
-            assert_eq!(told(returned), Err(Refusal::WrongArchive));
-        }
     }
 
     #[test]

@@ -12,5 +12,5 @@ use crate::refusal::refused;
 /// [`Refusal::ShortMemory`], [`Refusal::TooMany`] for n above [`DOFS`](crate::DOFS), [`Refusal::NotFinite`], [`Refusal::Singular`] and
 /// [`Refusal::ResultNotFinite`].
 pub fn solve(n: usize, matrix: &[f32], right: &[f32], result: &mut [f32]) -> Result<(), Refusal> {
-    refused(ffi::solve(n, matrix, right, result))
+    refused(ffi::solve(n, matrix, right, result).refusal)
 }

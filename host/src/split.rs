@@ -4,7 +4,7 @@
 
 use crate::Refusal;
 use crate::ffi;
-use crate::refusal::told;
+use crate::refusal::counted;
 use crate::which::Which;
 
 /// How an arm is split.
@@ -38,7 +38,7 @@ impl Split {
 /// [`Refusal::ShortMemory`] where the map is shorter than two bytes a parent, [`Refusal::TooMany`] for more parents than an arm has links, and
 /// [`Refusal::NoSuchLink`], for a parent that does not come before its link too.
 pub fn delete(parents: &[u8], link: u32, map: &mut [u8]) -> Result<usize, Refusal> {
-    told(ffi::split_delete(parents, link, map))
+    counted(ffi::split_delete(parents, link, map))
 }
 
 /// The same when a link's joint is cut.
@@ -47,7 +47,7 @@ pub fn delete(parents: &[u8], link: u32, map: &mut [u8]) -> Result<usize, Refusa
 ///
 /// As for [`delete`].
 pub fn cut(parents: &[u8], link: u32, map: &mut [u8]) -> Result<usize, Refusal> {
-    told(ffi::split_cut(parents, link, map))
+    counted(ffi::split_cut(parents, link, map))
 }
 
 /// Where an old link is after a split.

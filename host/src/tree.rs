@@ -2,7 +2,7 @@
 
 use crate::Refusal;
 use crate::ffi;
-use crate::refusal::refused;
+use crate::refusal::counted;
 
 /// Writes the links from the root to a link, a byte each; returned is their count.
 ///
@@ -11,7 +11,5 @@ use crate::refusal::refused;
 /// [`Refusal::ShortMemory`], [`Refusal::TooMany`] for more parents than an arm has links, and [`Refusal::NoSuchLink`], for a parent that does not come
 /// before its link too.
 pub fn kinematic_branch(parents: &[u8], link: u32, branch: &mut [u8]) -> Result<usize, Refusal> {
-    let answer = ffi::branch(parents, link, branch);
-    refused(answer.refusal)?;
-    Ok(answer.count)
+    counted(ffi::branch(parents, link, branch))
 }

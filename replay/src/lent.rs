@@ -4,7 +4,7 @@
 //! wasn't lent, and that functions which answer the same question agree.
 
 use crate::terms::{floats_of, limits, new_coupling, new_link, point, pose};
-use giellavor::abi::{Arm, Edited, Force, Spring};
+use giellavor::abi::{Arm, Counted, Edited, Force, Spring};
 use giellavor::{DOFS, LINKS, TABLES, ffi, masks};
 use script::limits::{AXES, LENT, PAST};
 use script::{
@@ -28,14 +28,6 @@ fn refused(number: u8) -> Answer {
     }
 }
 
-/// A count, or a refusal's number below zero.
-fn told(returned: i32) -> Answer<usize> {
-    match usize::try_from(returned) {
-        Ok(count) => Ok(count),
-        Err(_) => Err(No::Refused(u8::try_from(returned.unsigned_abs()).unwrap_or(u8::MAX))),
-    }
-}
-
 /// Whether no bit differs; that is seen without a branch for each float.
 fn same_floats(a: &[f32], b: &[f32]) -> bool {
     let pairs = a.iter().zip(b);
@@ -45,6 +37,13 @@ fn same_floats(a: &[f32], b: &[f32]) -> bool {
 /// What must hold of an answer, in words for where it doesn't.
 fn held(holds: bool, words: &'static str) -> Answer {
     if holds { Ok(()) } else { Err(No::Wrong(words)) }
+}
+
+/// The count of an answer that isn't refused.
+fn counted(answer: impl Into<Counted>) -> Answer<usize> {
+    let Counted { refusal, count } = answer.into();
+    held(refusal == 0 || count == 0, "refused, and counted")?;
+    refused(refusal).map(|()| count)
 }
 
 fn new_tables() -> Vec<f32> {
@@ -208,12 +207,12 @@ impl Engine for Lent {
 
     fn branch(&self, link: u32, branch: &mut [u8]) -> Answer<usize> {
         let answer = ffi::kinematic_branch(self.arm(), link, branch);
-        refused(answer.refusal)?;
+        let count = counted(answer)?;
         let mut bare = vec![0; branch.len()];
         let by_parents = ffi::branch(&self.parents(), link, &mut bare);
-        let same = by_parents == answer && bare.get(..answer.count) == branch.get(..answer.count);
+        let same = by_parents == answer && bare.get(..count) == branch.get(..count);
         held(same, "another branch by bare parents")?;
-        Ok(answer.count)
+        Ok(count)
     }
 
     fn view(&self, role: Role, link: u32, lent: usize) -> Answer<Vec<f32>> {
@@ -246,34 +245,31 @@ impl Engine for Lent {
             Split::Delete => ffi::arm_split_delete(self.arm(), link, map),
             Split::Cut => ffi::arm_split_cut(self.arm(), link, map),
         };
-        refused(answer.refusal)?;
+        let parts = counted(answer)?;
         let parents = self.parents();
         let mut bare = vec![0; 2 * parents.len()];
-        let parts = told(match how {
+        let by_parents = match how {
             Split::Delete => ffi::split_delete(&parents, link, &mut bare),
             Split::Cut => ffi::split_cut(&parents, link, &mut bare),
-        })?;
-        let same = parts == answer.count && map.get(..bare.len()) == Some(&bare[..]);
+        };
+        let same = by_parents == answer && map.get(..bare.len()) == Some(&bare[..]);
         held(same, "another split by bare parents")?;
-        Ok(answer.count)
+        Ok(parts)
     }
 
     fn masks(&self, locked: u32, limit: u32, motor: u32) -> Answer<MaskCounts> {
-        let constraints = told(ffi::num_velocity_constraints(locked, limit, motor))?;
-        let dofs = told(ffi::dof_count(locked))?;
+        let constraints = counted(ffi::num_velocity_constraints(locked, limit, motor))?;
+        let dofs = counted(ffi::dof_count(locked))?;
         let mut damping = [0; 4 * AXES];
-        let written = told(ffi::default_damping(locked, &mut damping))?;
+        let written = counted(ffi::default_damping(locked, &mut damping))?;
         held(written == dofs, "a damping for another count of DoFs")?;
         let mut below = 0;
         for axis in 0..AXES as u32 {
-            let counted = ffi::dof_count_below(locked, axis);
-            let free = ffi::free_axis(locked, axis);
-            refused(counted.refusal)?;
-            refused(free.refusal)?;
-            held(counted.count == below, "another count of DoFs below an axis")?;
-            below += free.count;
+            let before = counted(ffi::dof_count_below(locked, axis))?;
+            held(before == below, "another count of DoFs below an axis")?;
+            below += counted(ffi::free_axis(locked, axis))?;
         }
-        held(usize::from(below) == dofs, "another count of free axes")?;
+        held(below == dofs, "another count of free axes")?;
         Ok(MaskCounts {
             dofs,
             constraints,
@@ -287,7 +283,7 @@ impl Engine for Lent {
             .iter()
             .map(|&mask| u8::try_from(mask).unwrap_or(u8::MAX))
             .collect();
-        told(ffi::starts(&masks, starts))
+        counted(ffi::starts(&masks, starts))
     }
 
     fn rotation(&self, angle: f32) -> Answer<[f32; 2]> {
@@ -297,7 +293,8 @@ impl Engine for Lent {
     }
 
     fn solve(&mut self, mass: &[f32], right: &[f32], result: &mut [f32]) -> Answer {
-        refused(ffi::solve(right.len(), mass, right, result))
+        let count = counted(ffi::solve(right.len(), mass, right, result))?;
+        held(count == right.len(), "a solution of another length")
     }
 
     fn limit_row(

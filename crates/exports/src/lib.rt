@@ -1,8 +1,8 @@
 // The entry points that give an arm, the rotation and the solve, as C functions for Rust. Each is its entry point and nothing more: the contract cites
-// the same definition. An arm goes in and comes out by value; what an enum names is a function for each case.
+// the same definition; the solve's refusal has a count beside it. An arm goes in and comes out by value; what an enum names is a function for each case.
 ghost use mathlib.Core.Path.{_≡_};
 ghost use Rattle.planar.specs.Rotation.{rotated};
-ghost use Rattle.solve.specs.Solve.{answer, solveOf};
+ghost use Rattle.solve.specs.Solve.{solveOf};
 ghost use Rattle.topology.specs.declared.Split.the-variants.{Delete, Cut};
 ghost use Rattle.arm_edits.specs.Rows.{rowWritten};
 ghost use Rattle.arm_edits.specs.Springs.{armSpringSet};
@@ -16,6 +16,7 @@ ghost use Rattle.one_link_move.specs.Move.{linkMoved};
 ghost use Rattle.whole_step.specs.Step.{wholeStep};
 ghost use Rattle.root_change.specs.Root.{changedRoot};
 ghost use Rattle.parts.specs.Answers.{armPart};
+ghost use Rattle.exports.specs.Solved.{counted, solved, solvedBy};
 use addition::NewLink;
 use arm::Arm;
 use arm::Edited;
@@ -30,6 +31,7 @@ use planar::Point;
 use planar::Pose;
 use planar::Rotated;
 use root_change::change_root;
+use topology::Counted;
 use topology::Split;
 
 // ---- Numbers
@@ -42,12 +44,28 @@ pub extern "C" fn giellavor_rotate(angle: f32) -> Rotated
     planar::rotate(angle)
 }
 
-// The solve of an n by n matrix, in rows, against a right side; the solution goes into the first n floats of `result`. Refused: 1, 2, 7, 11, 12.
-#[no_mangle]
-pub extern "C" fn giellavor_solve(n: usize, matrix: &[f32], right: &[f32], result: &mut [f32]) -> u8
-    ensures { λ r. ⌜ answer r (now (result .exit)) ≡ solveOf n (now (matrix .entry)) (now (right .entry)) (now (result .entry)) ⌝ }
+// The count, unless there is a refusal.
+fn answer(refusal: u8, count: usize) -> Counted
+    ensures { λ r. ⌜ r ≡ counted refusal count ⌝ }
 {
-    solve::solve(n, matrix, right, result)
+    if refusal == 0 {
+        return Counted { refusal, count };
+    }
+    Counted { refusal, count: 0 }
+}
+
+// The solve of an n by n matrix, in rows, against a right side; the solution goes into the first n floats of `result`, and n is returned. Refused: 1, 2, 7,
+// 11, 12.
+#[no_mangle]
+pub extern "C" fn giellavor_solve(
+    n: usize,
+    matrix: &[f32],
+    right: &[f32],
+    result: &mut [f32],
+) -> Counted
+    ensures { λ r. ⌜ solved r (now (result .exit)) ≡ solvedBy n (solveOf n (now (matrix .entry)) (now (right .entry)) (now (result .entry))) ⌝ }
+{
+    answer(solve::solve(n, matrix, right, result), n)
 }
 
 // ---- Making an arm

@@ -17,7 +17,6 @@ use Rattle.masks.specs.Answers as masks
 use Rattle.masks.proofs.Laws.{dofs-le}
 use Rattle.masks.proofs.Fills.{length-damping}
 use Rattle.masks.proofs.Answers.{damping-fits}
-use Rattle.plugin.specs.Returns.{out, countTold, filledTold}
 use Rattle.plugin.specs.Bytes.{bytesOf, dampingBytes}
 
 -- no mask has more than three DoFs, so room for three is room enough
@@ -52,7 +51,7 @@ module _ (n : ℕ) (row old part : List Float) (a : Count) (long : length row �
 
   -- the floats that were laid over a row are written; a refusal writes none
   as-bytes : (k : ℕ) → masks.out a part ≡ filled k n row old → (rest : List Float) (lent bytes : List ℕ)
-      → bytes ≡ laid (bytesOf (take (a .count) (part ++ rest))) lent → out (countTold a) bytes ≡ filledTold (filled k n (bytesOf row) lent)
+      → bytes ≡ laid (bytesOf (take (a .count) (part ++ rest))) lent → masks.out a bytes ≡ filled k n (bytesOf row) lent
   unfolding filled counted laid bytesOf
   as-bytes zero e rest lent bytes q =
       let answer : a ≡ counted 0 n = ap (λ (o : Outcome Float). o .answer) e in
@@ -78,7 +77,7 @@ module _ (mask : ℕ) (lent : List ℕ) (old part rest : List Float) (a : Count)
   bytes-fit = omega (arith, fits, length-take (a .count - 0) (part ++ rest))
 
   pub as-written : (bytes : List ℕ) → bytes ≡ laid (bytesOf (take (a .count - 0) (part ++ rest))) lent
-      → out (countTold a) bytes ≡ filledTold (dampingBytes mask lent)
+      → masks.out a bytes ≡ dampingBytes mask lent
   unfolding dampingAnswer dampingBytes
   as-written bytes q =
       let refusal : dampingRefusal mask (length old) ≡ dampingRefusal mask (length lent / 4) =

@@ -1,4 +1,2 @@
-pub mod Signs
-pub mod Parts
 pub mod Rows
 pub mod Damping

@@ -261,10 +261,14 @@ impl Call {
             Call::FillJacobians(link, force) => {
                 rowed(ffi::fill_jacobians(arm, link, force, tables, mass, j, wj).refusal)
             }
-            Call::Solve(n) => Came {
-                rows: n,
-                ..Came::number(ffi::solve(n, mass, j, wj))
-            },
+            Call::Solve(n) => {
+                let solved = ffi::solve(n, mass, j, wj);
+                assert_eq!(solved.count, if solved.refusal == 0 { n } else { 0 });
+                Came {
+                    rows: n,
+                    ..Came::number(solved.refusal)
+                }
+            }
         }
     }
 }

@@ -338,7 +338,6 @@ fn as_rust(of: &str) -> String {
     match of {
         "uint8_t" => "u8",
         "uint32_t" => "u32",
-        "int32_t" => "i32",
         "size_t" => "usize",
         "float" => "f32",
         _ => of.strip_prefix("Giellavor").unwrap_or_else(|| panic!("{of}")),

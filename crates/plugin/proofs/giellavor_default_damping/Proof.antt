@@ -1,6 +1,5 @@
--- `giellavor_default_damping`: the answer over three floats, told, with their bytes for the floats. Assumes nothing.
+-- `giellavor_default_damping`: the answer over three floats, with their bytes for the floats. Assumes nothing.
 use Rattle.plugin.proofs.Damping.{bytes-fit, count-fits, as-written, three-long}
-use Rattle.plugin.proofs.Signs.{out-on}
 use borrow.Author.Needs.{needs}
 use Rattle.plugin.proofs.giellavor_default_damping.Statement.{statement}
 use Rattle.plugin.proofs.giellavor_default_damping.Tie as tie
@@ -41,18 +40,14 @@ write-row-requires c κs =
     let damped = c .before .before .before .before .before in
     bytes-fit (start .args .mask) (start .args .damping .now) _ _ _ (damped .default-damping .result) (three-long _ _ _ (damped .before .before .fewer .ensures)) (damped .default-damping .ensures)
 
-tell-requires : tie.Need-tell-requires
-tell-requires c κs = search needs
-
 same-length : tie.Need-same-length
 same-length c = search needs
 
 returns : tie.Need-returns
 returns c =
-    let start = c .before .before .before .before .before .before .before .before .before .before .before .before .before in
-    let damped = c .before .before .before .before .before .before .before .before .before in
-    out-on _ _ _ _ (c .tell .ok) (c .tell .ensures)
-    (as-written (start .args .mask) (start .args .damping .now) _ _ _ (damped .default-damping .result) (three-long _ _ _ (damped .before .before .fewer .ensures)) (damped .default-damping .ensures) _ (c .before .before .before .write-row .ensures))
+    let start = c .before .before .before .before .before .before .before .before .before .before .before .before in
+    let damped = c .before .before .before .before .before .before .before .before in
+    as-written (start .args .mask) (start .args .damping .now) _ _ _ (damped .default-damping .result) (three-long _ _ _ (damped .before .before .fewer .ensures)) (damped .default-damping .ensures) _ (c .before .before .write-row .ensures)
 
 pub giellavor-default-damping-spec : {M : Type 1} → statement M
 giellavor-default-damping-spec =
@@ -68,6 +63,5 @@ giellavor-default-damping-spec =
     part-write-row-start
     part-write-row-end
     write-row-requires
-    tell-requires
     same-length
     returns)

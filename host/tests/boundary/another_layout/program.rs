@@ -50,19 +50,15 @@ fn edits(edited: &mut Edited, tables: &mut [f32]) -> [(&'static str, u8); 15] {
 
 fn over_numbers() {
     let (parents, mut bytes, mut floats) = ([0, 0], [BYTE; 16], [FLOAT; 2]);
-    let signed = [
-        ("split_delete", ffi::split_delete(&parents, 0, &mut bytes)),
-        ("split_cut", ffi::split_cut(&parents, 0, &mut bytes)),
-        ("dof_count", ffi::dof_count(0)),
-        ("starts", ffi::starts(&parents, &mut bytes)),
-        ("num_velocity_constraints", ffi::num_velocity_constraints(0, 0, 0)),
-        ("default_damping", ffi::default_damping(0, &mut bytes)),
-    ];
-    for (name, refusal) in signed {
-        println!("{name} {}", -refusal);
-    }
+    println!("split_delete {}", ffi::split_delete(&parents, 0, &mut bytes).refusal);
+    println!("split_cut {}", ffi::split_cut(&parents, 0, &mut bytes).refusal);
+    println!("dof_count {}", ffi::dof_count(0).refusal);
+    println!("starts {}", ffi::starts(&parents, &mut bytes).refusal);
+    let constraints = ffi::num_velocity_constraints(0, 0, 0);
+    println!("num_velocity_constraints {}", constraints.refusal);
+    println!("default_damping {}", ffi::default_damping(0, &mut bytes).refusal);
     println!("rotate {}", ffi::rotate(0.0).refusal);
-    println!("solve {}", ffi::solve(1, &[1.0], &[1.0], &mut floats));
+    println!("solve {}", ffi::solve(1, &[1.0], &[1.0], &mut floats).refusal);
     println!("free_axis {}", ffi::free_axis(0, 0).refusal);
     println!("dof_count_below {}", ffi::dof_count_below(0, 0).refusal);
     println!("branch {}", ffi::branch(&parents, 0, &mut bytes).refusal);
