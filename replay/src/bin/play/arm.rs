@@ -1,10 +1,10 @@
 //! An arm as `dump` and `kin` print it.
 
 use crate::answer::{Answer, decimal, float};
+use script::limits::DOFS;
 
-/// The words before a block's columns, and how many columns there are.
+/// The words before a block's columns.
 const BEFORE_COLUMNS: usize = 4;
-const COLUMNS: usize = 48;
 
 /// A link: its words after the number, as `dump` prints them.
 struct Link {
@@ -80,7 +80,7 @@ fn kept_of(kin: &Answer, pose: &[String]) -> Kept {
 fn widened(line: &[String]) -> Vec<String> {
     let mut words = line.to_vec();
     if words[0] == "jac" {
-        words.resize(BEFORE_COLUMNS + COLUMNS, String::from("00000000"));
+        words.resize(BEFORE_COLUMNS + DOFS, String::from("00000000"));
     }
     words
 }
