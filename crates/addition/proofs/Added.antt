@@ -10,30 +10,27 @@ use lib.Dec.{eqb, ltb, leb}
 use lib.ListN.{length, take, drop, getD, set, length-map, length-append, length-replicate, length-drop, List·getD-append}
 use lib.Seq.{take-suc-set, getD-at}
 use lib.Ieee.{Float}
+use Rattle.lists.proofs.Modified.{modify-every}
+use Rattle.lists.proofs.Every.{every-map, every-snoc}
+use Rattle.lists.specs.Tests.{every}
+use Rattle.lists.specs.Numbers.{allBelow}
+use Rattle.lists.specs.Lists.{laid, modify}
+use Rattle.lists.proofs.Bools.{both-hold, both}
 use Rattle.limits.specs.Limits.{linkLimit, couplingLimit}
-use Rattle.refusal.proofs.Tests.{both-hold, both}
 use Rattle.floats.specs.Floats.{allFinite, zero32}
 use Rattle.masks.specs.Masks.{dofsOf, dampingRow}
-use Rattle.masks.specs.Answers.{laid}
 use Rattle.masks.specs.Starts.{totalOf}
 use Rattle.masks.proofs.Laws.{dofs-le}
 use Rattle.masks.proofs.Totals.{total-snoc}
-use Rattle.topology.specs.Tables.{allBelow}
-use Rattle.topology.specs.Parents.{parentFits, parentsFit}
-use Rattle.topology.specs.Parents as by-list
+use Rattle.topology.specs.Parents.{parentFits, parentsFit, parentIn}
 use Rattle.arm.specs.declared.Link.{Link}
 use Rattle.arm.specs.declared.Coupling.{Coupling}
 use Rattle.arm.specs.declared.Row.{Row}
 use Rattle.arm.specs.declared.Arm.{Arm}
-use Rattle.arm.specs.Arm.{liveLinks, linksOf, couplingsOf, tagOf, lockedOf, tagsOf, parentsOf, masksOf, dofCountOf, entriesTo, rowsOf}
-use Rattle.arm.specs.Arm as of-arm
-use Rattle.arm.specs.Edits.{modify}
-use Rattle.arm.specs.HandedIn.{every, differs, isNew, unique, tagsUnique, parentsEarlier, couplingLinksFit, jointMasksFit, linkMasksFit, rootMaskFits, rootFits, linkFinite, rowsFinite, linkAngleFits, rowFinite}
-use Rattle.arm.proofs.Every.{every-map}
+use Rattle.arm.specs.Arm.{liveLinks, linksOf, couplingsOf, tagOf, lockedOf, tagsOf, parentsOf, masksOf, dofCountOf, entriesTo, rowsOf, parentOf}
+use Rattle.arm.specs.HandedIn.{differs, isNew, unique, tagsUnique, parentsEarlier, couplingLinksFit, jointMasksFit, linkMasksFit, rootMaskFits, rootFits, linkFinite, rowsFinite, linkAngleFits, rowFinite}
 use Rattle.arm.proofs.Live.{links-live, masks-live}
-use Rattle.arm.proofs.Modified.{modify-every}
-use Rattle.settled.proofs.Accepted.{Accepted}
-use Rattle.settled.proofs.Lists.{every-snoc}
+use Rattle.one_link.proofs.Accepted.{Accepted}
 use Rattle.addition.specs.declared.NewLink.{NewLink}
 use Rattle.addition.specs.NewLink.{zeros, linkOf, entriesSet, rowsWith, addedInputs}
 use Rattle.addition.specs.Addition.{eachMask, masksFit}
@@ -47,7 +44,7 @@ swapped : (x y : ℕ) → differs x y ≡ true → differs y x ≡ true
 swapped x y e = ap not (ne-eqb x y (λ q. eqb-false y x (not-true (eqb y x) e) (sym q)))
 
 unique-snoc : (ts : List ℕ) (tag : ℕ) → unique ts ≡ true → isNew tag ts ≡ true → unique (ts ++ (tag ∷ [])) ≡ true
-unfolding unique every
+unfolding unique
 unique-snoc [] tag e h = refl
 unique-snoc (t ∷ ts) tag e h =
     let p = both-hold (isNew t ts) (unique ts) e in
@@ -58,17 +55,17 @@ fits-snoc : (ps : List ℕ) (p : ℕ) → parentsFit ps ≡ true → parentFits 
 unfolding parentsFit allBelow
 fits-snoc ps p e h =
     let n : length (ps ++ (p ∷ [])) ≡ suc (length ps) = length-append ps (p ∷ []) ∙ add-one (length ps) in
-    ap (λ (k : ℕ). allBelow k (λ j. parentFits j (by-list.parentOf (ps ++ (p ∷ [])) j))) n
+    ap (λ (k : ℕ). allBelow k (λ j. parentFits j (parentIn (ps ++ (p ∷ [])) j))) n
     ∙ both (front (length ps) (λ j q. List·getD-append ps (p ∷ []) 0 j q) ∙ e) (ap (parentFits (length ps)) (getD-at ps p [] 0 (length ps) refl) ∙ h)
   where
-    front : (m : ℕ) → ((j : ℕ) → j < m → by-list.parentOf (ps ++ (p ∷ [])) j ≡ by-list.parentOf ps j)
-        → allBelow m (λ j. parentFits j (by-list.parentOf (ps ++ (p ∷ [])) j)) ≡ allBelow m (λ j. parentFits j (by-list.parentOf ps j))
+    front : (m : ℕ) → ((j : ℕ) → j < m → parentIn (ps ++ (p ∷ [])) j ≡ parentIn ps j)
+        → allBelow m (λ j. parentFits j (parentIn (ps ++ (p ∷ [])) j)) ≡ allBelow m (λ j. parentFits j (parentIn ps j))
     front zero f = refl
     front (suc m) f = ap₂ _&&_ (front m (λ j q. f j (omega arith))) (ap (parentFits m) (f m (omega arith)))
 
 -- a coupling's links are below a greater count too
 coupled-more : (n : ℕ) (cs : List Coupling) → every (couplingLinksFit n) cs ≡ true → every (couplingLinksFit (n + 1)) cs ≡ true
-unfolding every couplingLinksFit
+unfolding couplingLinksFit
 coupled-more n [] e = refl
 coupled-more n (c ∷ cs) e =
     let p = both-hold (couplingLinksFit n c) (every (couplingLinksFit n) cs) e in
@@ -88,7 +85,6 @@ pub zeros-enough : (mask : ℕ) → dofsOf mask ≤ length zeros
 zeros-enough mask = omega (arith, dofs-le mask, length-replicate 3 zero32)
 
 pub laid-enough : (mask : ℕ) → dofsOf mask ≤ length (laid (dampingRow mask) zeros)
-unfolding laid
 laid-enough mask =
     let row = dampingRow mask in
     omega (arith, length-append row (drop (length row) zeros), length-drop (length row) zeros, dofs-le mask, length-replicate 3 zero32)
@@ -132,8 +128,8 @@ module _ (a : Arm) (sized : length (a .links) ≡ linkLimit) (t : List Float) (n
   parents : parentsEarlier (addedInputs a new) ≡ true
   unfolding parentsEarlier parentsOf linkOf
   parents =
-      ap parentsFit (mapped of-arm.parentOf)
-      ∙ fits-snoc (parentsOf a) (new .parent) (ok .parents) (ap (λ (i : ℕ). parentFits i (new .parent)) (length-map (linksOf a) of-arm.parentOf ∙ count-length) ∙ k .parent)
+      ap parentsFit (mapped parentOf)
+      ∙ fits-snoc (parentsOf a) (new .parent) (ok .parents) (ap (λ (i : ℕ). parentFits i (new .parent)) (length-map (linksOf a) parentOf ∙ count-length) ∙ k .parent)
 
   masks : linkMasksFit (linkOf new) ≡ true
   unfolding jointMasksFit linkOf
@@ -161,7 +157,6 @@ module _ (a : Arm) (sized : length (a .links) ≡ linkLimit) (t : List Float) (n
   dofs-added = ap totalOf (mapped lockedOf) ∙ total-snoc (masksOf a) (new .locked)
 
   zeroed : (rows : List Row) → every (rowFinite d) rows ≡ true → every (rowFinite (d + m)) (map (entriesSet d m zeros) rows) ≡ true
-  unfolding every
   zeroed [] e = refl
   zeroed (row ∷ rows) e =
       let p = both-hold (rowFinite d row) (every (rowFinite d) rows) e in

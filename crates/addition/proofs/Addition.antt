@@ -10,29 +10,28 @@ use lib.Dec.{eqb}
 use lib.ListN.{length, getD, set, take, length-set, length-map, List·getD-map}
 use lib.Seq.{getD-set-other, take-set-le, length-take-le}
 use lib.Ieee.{Float}
+use Rattle.arm.specs.Sized.{Sized}
+use Rattle.lists.proofs.Parts.{with-length}
+use Rattle.lists.proofs.Modified.{length-modify, modify-same, modify-other}
+use Rattle.lists.proofs.Lists.{map-take, map-at}
+use Rattle.lists.specs.Lists.{laid, modify}
 use Rattle.limits.specs.Limits.{linkLimit, dofLimit}
 use Rattle.masks.specs.Masks.{dofsOf, dampingRow}
-use Rattle.masks.specs.Answers.{laid}
 use Rattle.masks.specs.Starts.{totalOf, startOf}
 use Rattle.masks.proofs.Laws.{dofs-le}
 use Rattle.arm.specs.declared.Link.{Link}
 use Rattle.arm.specs.declared.Row.{Row}
 use Rattle.arm.specs.declared.Arm.{Arm}
-use Rattle.arm.specs.Arm.{dofCountOf, entriesOf}
-use Rattle.arm.specs.Edits.{modify}
-use Rattle.arm.proofs.Lists.{map-take, map-at}
-use Rattle.arm.proofs.Modified.{length-modify, modify-same, modify-other}
+use Rattle.arm.specs.Arm.{dofCountOf, entriesOf, noLink, linkAt, lockedOf}
 use Rattle.kinematics.specs.Blocks.{blockAt}
 use Rattle.kinematics.specs.Link.{finiteKept}
-use Rattle.kinematics.specs.State.{state, noLink, linkAt, parentOf, lockedOf, inputsOf, keptAt, keptOps}
-use Rattle.kinematics.proofs.Blocks.{with-length}
+use Rattle.kinematics.specs.State.{state, inputsOf, keptAt, keptOps, parentAt}
 use Rattle.kinematics.proofs.Pass.{new-same}
-use Rattle.working.specs.Full.{Settled}
+use Rattle.full_working.specs.Full.{Settled}
 use Rattle.kinematics.specs.Promises.{Fresh, Ready}
-use Rattle.arm.specs.Agree.{Sized}
-use Rattle.settled.proofs.Parents.{parent-le}
-use Rattle.settled.proofs.Settles.{Facts, facts}
-use Rattle.settled.proofs.Right.{Edit, right}
+use Rattle.one_link.proofs.Parents.{parent-le}
+use Rattle.one_link.proofs.Settles.{Facts, facts}
+use Rattle.one_link.proofs.Right.{Edit, right}
 use Rattle.addition.specs.declared.NewLink.{NewLink}
 use Rattle.addition.specs.NewLink.{zeros, linkOf, entriesSet, rowsWith, addedInputs}
 use Rattle.kinematics.specs.State.{only}
@@ -117,12 +116,12 @@ module _ (a : Arm) (t : List Float) (sized : Sized a) (settled : Settled a t) (n
   early-link : (j : ℕ) → j < n → linkAt ls′ j ≡ linkAt ls j
   early-link j h = getD-set-other ls n j (linkOf new) noLink (omega arith)
 
-  early-parent : (j : ℕ) → j < n → parentOf ls j ≡ parentOf ls′ j
-  unfolding parentOf
+  early-parent : (j : ℕ) → j < n → parentAt ls j ≡ parentAt ls′ j
+  unfolding parentAt
   early-parent j h = ap (λ (l : Link). l .parent) (sym (early-link j h))
 
   -- no earlier link has a parent past the last
-  parent-before : (j : ℕ) → j < n → parentOf ls j < n
+  parent-before : (j : ℕ) → j < n → parentAt ls j < n
   parent-before j h = omega (arith, parent-le a (sized .links) (facts-of .few) (facts-of .ok .parents) j h)
 
   as-was : (j : ℕ) → j < n → keptAt (state ls′ t) j ≡ keptAt (state ls t) j
@@ -142,18 +141,18 @@ module _ (a : Arm) (t : List Float) (sized : Sized a) (settled : Settled a t) (n
   inputs-kept j h =
       let p = sym (early-link j h) in
       let s = starts j h in
-      let u = ap (λ (x : Link). x .centre) (sym (early-link (parentOf ls j) (parent-before j h))) ∙ ap (λ (i : ℕ). linkAt ls′ i .centre) (early-parent j h) in
+      let u = ap (λ (x : Link). x .centre) (sym (early-link (parentAt ls j) (parent-before j h))) ∙ ap (λ (i : ℕ). linkAt ls′ i .centre) (early-parent j h) in
       λ i. record { joint = p i .joint; centre = p i .centre; start = s i; above = u i }
 
   fresh : (j : ℕ) → j < n → Fresh ls′ t j
   fresh j h =
       as-was j h
       ∙ facts-of .fresh j h
-      ∙ new-same keptOps (parentOf ls) (inputsOf ls) (parentOf ls′) (inputsOf ls′) (state ls t) (state ls′ t) j (early-parent j h) (inputs-kept j h) (λ q. sym (as-was (parentOf ls j) (parent-before j h)))
+      ∙ new-same keptOps (parentAt ls) (inputsOf ls) (parentAt ls′) (inputsOf ls′) (state ls t) (state ls′ t) j (early-parent j h) (inputs-kept j h) (λ q. sym (as-was (parentAt ls j) (parent-before j h)))
 
   ready : Ready ls′ (n + 1) (only n) t
   ready = record {
-    closed = λ j h q e. absurd (omega (arith, eqb-true (parentOf ls′ j) n e));
+    closed = λ j h q e. absurd (omega (arith, eqb-true (parentAt ls′ j) n e));
     fresh = λ j h e. fresh j (before j h e);
     finite = λ j h e. ap finiteKept (as-was j (before j h e)) ∙ facts-of .finite j (before j h e);
     unused = λ j h l. facts-of .unused j (omega arith) l;

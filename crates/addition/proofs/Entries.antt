@@ -8,23 +8,24 @@ use borrow.Author.Tests.{le-leb}
 use lib.ListN.{length, getD, set, take, drop, length-map}
 use lib.Seq.{length-take-le}
 use lib.Ieee.{Float}
+use Rattle.floats.proofs.Parts.{copied-in}
+use Rattle.lists.proofs.Modified.{set-modify}
+use Rattle.lists.proofs.Lists.{filled-all}
+use Rattle.lists.specs.Lists.{laid, modify}
+use Rattle.refusal.specs.Counted.{Outcome, out, filled}
+use Rattle.refusal.specs.declared.Counted.{Counted}
 use Rattle.limits.specs.Limits.{linkLimit, dofLimit}
 use Rattle.refusal.specs.Refusal.{lowerOf}
 use Rattle.floats.specs.Floats.{overlaid}
-use Rattle.masks.specs.declared.Count.{Count}
 use Rattle.masks.specs.Masks.{dofsOf, dampingRow}
-use Rattle.masks.specs.Answers.{Outcome, out, laid, filled, dampingRefusal, dampingAnswer}
+use Rattle.masks.specs.Answers.{dampingRefusal, dampingAnswer}
 use Rattle.masks.proofs.Laws.{dofs-le}
 use Rattle.masks.proofs.Totals.{total-le}
 use Rattle.arm.specs.declared.Row.{Row}
 use Rattle.arm.specs.declared.RowName.the-variants.{Damping}
 use Rattle.arm.specs.declared.Arm.{Arm}
 use Rattle.arm.specs.Arm.{masksOf, dofCountOf, rowNumber}
-use Rattle.arm.specs.Edits.{modify}
-use Rattle.arm.proofs.Lists.{filled-all}
 use Rattle.arm.proofs.Live.{masks-live}
-use Rattle.arm.proofs.Modified.{set-modify}
-use Rattle.kinematics.proofs.Blocks.{copied-in}
 use Rattle.addition.specs.NewLink.{zeros, entriesSet, rowsFrom}
 
 -- ---- the default damping, at the front of three places
@@ -34,7 +35,7 @@ module _ (mask : ℕ) (h : mask ≤ 7) where
   unfolding dampingRefusal lowerOf
   none-refused = rw (le-leb (dofsOf mask) 3 (dofs-le mask), le-leb mask 7 h)
 
-  pub damped : (r : Count) (m : List Float) → out r m ≡ dampingAnswer mask zeros → m ≡ laid (dampingRow mask) zeros
+  pub damped : (r : Counted) (m : List Float) → out r m ≡ dampingAnswer mask zeros → m ≡ laid (dampingRow mask) zeros
   unfolding dampingAnswer filled
   damped r m e =
       ap (λ (o : Outcome Float). o .memory) e

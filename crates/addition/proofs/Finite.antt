@@ -8,11 +8,12 @@ use lib.Dec.{eqb}
 use lib.ListN.{length, take, drop}
 use lib.Seq.{take-at, length-take-le}
 use lib.Ieee.{Float, binary32, ofBits, ofFields, lt}
-use Rattle.refusal.proofs.Tests.{both-hold, both}
+use Rattle.lists.proofs.Every.{every-drop, every-join, every-take}
+use Rattle.lists.specs.Lists.{laid}
+use Rattle.lists.proofs.Bools.{both-hold, both}
 use Rattle.floats.specs.Floats.{isFinite, allFinite, one32}
-use Rattle.floats.proofs.FiniteRows.{zero-finite, finite-join, finite-take, finite-drop}
+use Rattle.floats.proofs.FiniteRows.{zero-finite}
 use Rattle.masks.specs.Masks.{isFree, dampingOf, dampingBelow, dampingRow}
-use Rattle.masks.specs.Answers.{laid}
 use Rattle.planar.specs.Rotation.{isBeyond}
 use Rattle.planar.specs.Poses.{rotationOf, translationOf, identityPose, finiteRotation, finitePoint, finitePose, origin}
 use Rattle.arm.specs.declared.Row.{Row}
@@ -69,22 +70,22 @@ link-within new = refl
 below-finite : (mask axis : ℕ) → allFinite (dampingBelow mask axis) ≡ true
 unfolding dampingBelow
 below-finite mask zero = refl
-below-finite mask (suc axis) = finite-join (dampingBelow mask axis) _ (below-finite mask axis) (go (isFree mask axis))
+below-finite mask (suc axis) = every-join isFinite (dampingBelow mask axis) _ (below-finite mask axis) (go (isFree mask axis))
   where
     go : (b : Bool) → allFinite (cond b (dampingOf axis ∷ []) []) ≡ true
     go true = both (damping-finite axis) refl
     go false = refl
 
 pub laid-finite : (mask : ℕ) → allFinite (laid (dampingRow mask) zeros) ≡ true
-unfolding laid dampingRow
-laid-finite mask = finite-join (dampingRow mask) _ (below-finite mask 3) (finite-drop (length (dampingRow mask)) zeros zeros-finite)
+unfolding dampingRow
+laid-finite mask = every-join isFinite (dampingRow mask) _ (below-finite mask 3) (every-drop isFinite (length (dampingRow mask)) zeros zeros-finite)
 
 -- ---- a row with entries set behind its first d
 
 behind-finite : (d : ℕ) (es v : List Float) → allFinite (take d es) ≡ true → allFinite v ≡ true → (n : ℕ) → length v ≡ n
     → allFinite (take (d + n) (take d es ++ (v ++ drop (d + n) es))) ≡ true
 behind-finite zero es v p q n e = rw (zero-add n, take-at v (drop n es) n e) q
-behind-finite (suc d) [] v p q n e = rw suc-add (finite-take (suc (d + n)) (v ++ []) (finite-join v [] q refl))
+behind-finite (suc d) [] v p q n e = rw suc-add (every-take isFinite (suc (d + n)) (v ++ []) (every-join isFinite v [] q refl))
 behind-finite (suc d) (x ∷ es) v p q n e = rw suc-add (both (both-hold (isFinite x) (allFinite (take d es)) p .0) (behind-finite d es v (both-hold (isFinite x) (allFinite (take d es)) p .1) q n e))
 
 -- the front of a front
@@ -99,7 +100,7 @@ front-finite (suc d) n (x ∷ es) p =
 module _ (d n : ℕ) (values : List Float) (h : n ≤ length values) (v : allFinite values ≡ true) (row : Row) where
   pub row-finite : rowFinite d row ≡ true → rowFinite (d + n) (entriesSet d n values row) ≡ true
   unfolding entriesSet rowFinite
-  row-finite p = behind-finite d (row .entries) (take n values) p (finite-take n values v) n (length-take-le n values h)
+  row-finite p = behind-finite d (row .entries) (take n values) p (every-take isFinite n values v) n (length-take-le n values h)
 
   pub row-before : rowFinite (d + n) row ≡ true → rowFinite d row ≡ true
   unfolding rowFinite

@@ -21,10 +21,10 @@ use Rattle.kinematics.specs.declared.Turned.{Turned}
 use Rattle.kinematics.specs.State.{only}
 use Rattle.kinematics.specs.Answers.{refreshMarked, turnedOut, refreshOne}
 use Rattle.kinematics.proofs.One.{asMarked}
-use Rattle.working.specs.Outcome.{out}
-use Rattle.working.proofs.Passed.{one-on, one-off}
-use Rattle.working.proofs.Refused.{accepted}
-use Rattle.settled.proofs.One.{one-placed}
+use Rattle.full_working.specs.Outcome.{out}
+use Rattle.full_working.proofs.Passed.{one-on, one-off}
+use Rattle.full_working.proofs.Refused.{accepted}
+use Rattle.one_link.proofs.One.{one-placed}
 use Rattle.addition.specs.declared.NewLink.{NewLink}
 use Rattle.addition.specs.NewLink.{linkOf, rowsFrom, rowsWith, addedInputs}
 use Rattle.addition.specs.Addition.{addRefusal, linkAdded}

@@ -7,15 +7,16 @@ use native.Mathlib.Omega.{arith}
 use borrow.Author.Tests.{leb-true, ltb-true, eqb-true}
 use lib.Dec.{eqb, ltb}
 use lib.Ieee.{Float}
+use Rattle.lists.proofs.Bools.{both-hold}
 use Rattle.limits.specs.Limits.{linkLimit}
-use Rattle.refusal.proofs.Tests.{both-hold, holds}
+use Rattle.refusal.proofs.Tests.{holds}
 use Rattle.refusal.proofs.Laws.{none-of}
 use Rattle.topology.specs.Parents.{parentFits}
 use Rattle.arm.specs.declared.Arm.{Arm}
 use Rattle.arm.specs.Arm.{tagsOf}
 use Rattle.arm.specs.HandedIn.{isNew, armRefusal}
-use Rattle.working.specs.Outcome.{tablesFit}
-use Rattle.settled.specs.Above.{aboveFinite}
+use Rattle.full_working.specs.Outcome.{tablesFit}
+use Rattle.one_link.specs.Above.{aboveFinite}
 use Rattle.addition.specs.declared.NewLink.{NewLink}
 use Rattle.addition.specs.NewLink.{Small}
 use Rattle.addition.specs.Addition.{eachMask, masksFit, floatsFinite, addRefusal}

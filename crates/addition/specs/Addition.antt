@@ -13,8 +13,8 @@ use Rattle.arm.specs.declared.Arm.{Arm}
 use Rattle.arm.specs.Arm.{tagsOf}
 use Rattle.arm.specs.HandedIn.{isNew, armRefusal}
 use Rattle.kinematics.specs.State.{only}
-use Rattle.working.specs.Outcome.{Outcome, unlessRefused, tablesFit, workedMarked}
-use Rattle.settled.specs.Above.{aboveFinite}
+use Rattle.full_working.specs.Outcome.{Outcome, unlessRefused, tablesFit, workedMarked}
+use Rattle.one_link.specs.Above.{aboveFinite}
 use Rattle.addition.specs.declared.NewLink.{NewLink}
 use Rattle.addition.specs.NewLink.{addedInputs}
 

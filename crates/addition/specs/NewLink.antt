@@ -3,18 +3,16 @@ use Prim.Native.Nat.{ℕ, _+_, _≤_}
 use mathlib.Core.List.{List, map}
 use lib.ListN.{set, take, replicate}
 use lib.Ieee.{Float}
+use Rattle.lists.specs.Lists.{laid, modify, withPart}
 use Rattle.limits.specs.Limits.{linkLimit}
 use Rattle.floats.specs.Floats.{zero32}
 use Rattle.masks.specs.Masks.{dofsOf, dampingRow}
-use Rattle.masks.specs.Answers.{laid}
 use Rattle.planar.specs.Poses.{rotationOf, identityPose, origin}
 use Rattle.arm.specs.declared.Link.{Link}
 use Rattle.arm.specs.declared.Row.{Row}
 use Rattle.arm.specs.declared.RowName.the-variants.{Damping}
 use Rattle.arm.specs.declared.Arm.{Arm}
 use Rattle.arm.specs.Arm.{dofCountOf, rowNumber}
-use Rattle.arm.specs.Edits.{modify}
-use Rattle.kinematics.specs.Blocks.{withPart}
 use Rattle.addition.specs.declared.NewLink.{NewLink}
 
 -- its numbers are small

@@ -3,10 +3,10 @@ use Prim.Native.Nat.{ℕ}
 use mathlib.Core.Path.{_≡_}
 use mathlib.Core.List.{List}
 use lib.Ieee.{Float}
+use Rattle.arm.specs.Sized.{Sized}
 use Rattle.arm.specs.declared.Arm.{Arm}
-use Rattle.working.specs.Full.{Settled}
-use Rattle.arm.specs.Agree.{Sized}
-use Rattle.settled.specs.Promise.{Right}
+use Rattle.full_working.specs.Full.{Settled}
+use Rattle.one_link.specs.Promise.{Right}
 use Rattle.addition.specs.declared.NewLink.{NewLink}
 use Rattle.addition.specs.NewLink.{addedInputs}
 use Rattle.addition.specs.Addition.{addRefusal, linkAdded}

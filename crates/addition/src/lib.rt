@@ -3,11 +3,11 @@
 ghost use mathlib.Core.Path.{_≡_};
 ghost use Prim.Native.Nat.{min, _+_, _≤_};
 ghost use lib.ListN.{take};
+ghost use Rattle.lists.specs.Lists.{laid};
 ghost use Rattle.limits.specs.Limits.{linkLimit, dofLimit};
 ghost use Rattle.masks.specs.Masks.{dampingRow};
-ghost use Rattle.masks.specs.Answers.{laid};
 ghost use Rattle.arm.specs.HandedIn.{isNew, handedIn};
-ghost use Rattle.working.specs.Outcome.{out};
+ghost use Rattle.full_working.specs.Outcome.{out};
 ghost use Rattle.addition.specs.NewLink.{Small, linkOf, entriesSet, zeros, rowsFrom};
 ghost use Rattle.addition.specs.Addition.{masksFit, floatsFinite, turnsFit, addRefusal, linkAdded};
 use arm::Arm;
@@ -38,9 +38,9 @@ use planar::is_turn;
 use planar::rotation_of;
 use refusal::lower;
 use refusal::unless;
-use settled::is_finite_above;
+use one_link::is_finite_above;
 use topology::parent_fits;
-use working::tables_fit;
+use full_working::tables_fit;
 
 // What the caller gives of a link. Numbers are any, so that none is cut.
 #[repr(C)]

@@ -3,13 +3,14 @@ use Prim.Native.Nat.{ℕ}
 use mathlib.Core.Path.{_≡_, refl, sym, ap, _∙_}
 use mathlib.Core.List.{map}
 use lib.ListN.{length}
+use Rattle.lists.proofs.Modified.{length-modify, take-modify, map-modify-same}
+use Rattle.arm.specs.Sized.{Sized}
+use Rattle.lists.specs.Lists.{modify}
 use Rattle.limits.specs.Limits.{linkLimit}
 use Rattle.arm.specs.declared.Arm.{Arm}
 use Rattle.arm.specs.Arm.{liveLinks, linksOf, parentOf, lockedOf, parentsOf, masksOf}
-use Rattle.arm.specs.Edits.{modify}
 use Rattle.arm.specs.HandedIn.{armRefusal}
-use Rattle.arm.specs.Agree.{Agree, Sized}
-use Rattle.arm.proofs.Modified.{length-modify, take-modify, map-modify-same}
+use Rattle.arm.specs.Agree.{Agree}
 use Rattle.one_link_move.specs.declared.Change.{Change}
 use Rattle.one_link_move.specs.Change.{changed, movedInputs}
 use Rattle.one_link_move.proofs.Changed.{same-parent, same-locked}

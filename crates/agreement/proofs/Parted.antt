@@ -7,6 +7,9 @@ use native.Mathlib.Omega.{arith}
 use lib.ListN.{take, drop, getD}
 use lib.Seq.{take-take, getD-take}
 use lib.Ieee.{Float}
+use Rattle.lists.specs.Lists.{laid}
+use Rattle.lists.specs.Numbers.{gathered, chosen}
+use Rattle.arm.specs.Sized.{Sized}
 use Rattle.limits.specs.Limits.{linkLimit, couplingLimit}
 use Rattle.topology.specs.declared.Split.{Split}
 use Rattle.topology.specs.Split.{isHead, isIn, numberOf}
@@ -15,19 +18,17 @@ use Rattle.arm.specs.declared.Link.{Link}
 use Rattle.arm.specs.declared.Coupling.{Coupling}
 use Rattle.arm.specs.declared.Row.{Row}
 use Rattle.arm.specs.declared.Arm.{Arm}
-use Rattle.arm.specs.Arm.{liveLinks, couplingsOf, maskAt, startAt, dofCountOf, rowsOf}
+use Rattle.arm.specs.Arm.{liveLinks, couplingsOf, maskAt, startAt, dofCountOf, rowsOf, linkAt, noCoupling, couplingAt}
 use Rattle.arm.specs.Edits.{withLinks}
-use Rattle.arm.specs.Agree.{Agree, Sized}
+use Rattle.arm.specs.Agree.{Agree}
 use Rattle.arm.proofs.Live.{part-within}
 use Rattle.arm.proofs.Agree.{same-parents, same-mask-at, same-start}
-use Rattle.kinematics.specs.State.{linkAt}
 use Rattle.kinematics.specs.Answers.{refreshAll}
-use Rattle.working.specs.Outcome.{out, workedBy, workedAll}
-use Rattle.working.specs.Empty.{blankRow}
-use Rattle.part_arm.specs.Gathered.{gathered, chosen, laidOver}
+use Rattle.full_working.specs.Outcome.{out, workedBy, workedAll}
+use Rattle.full_working.specs.Empty.{blankRow}
 use Rattle.part_arm.specs.Places.{Places, placesOf, goesOn}
-use Rattle.part_arm.specs.Part.{newLink, partLinks, ownEntries, partEntries, partRow, noCoupling, couplingAt, couplingStays, newCoupling, partCouplings, partArm}
-use Rattle.parts.proofs.Same.{gathered-same}
+use Rattle.part_arm.specs.Part.{newLink, partLinks, ownEntries, partEntries, partRow, couplingStays, newCoupling, partCouplings, partArm}
+use Rattle.arm_split.proofs.Same.{gathered-same}
 use Rattle.agreement.specs.Respects.{Alike}
 use Rattle.agreement.proofs.Rows.{of-rows}
 use Rattle.agreement.proofs.Worked.{same-link}
@@ -52,7 +53,7 @@ module _ (p : Places) (a : Arm) (s : Sized a) where
   row-seen : (row : Row) → partRow p a row ≡ partRow p a (rowOf (take (dofCountOf a) (row .entries)))
   unfolding partRow partEntries
   row-seen row =
-      ap (λ (l : List Float). rowOf (laidOver l (blankRow .entries)))
+      ap (λ (l : List Float). rowOf (laid l (blankRow .entries)))
       (gathered-same (liveLinks a) _ _ (λ j h. ap (λ (l : List Float). cond (goesOn p j) l []) (own-seen (row .entries) j h)))
 
   rows-seen : map (partRow p a) (a .rows) ≡ map (λ (l : List Float). partRow p a (rowOf l)) (rowsOf a)
@@ -88,7 +89,7 @@ module _ (p : Places) (a b : Arm) (s : Sized a) (r : Sized b) (g : Agree a b) wh
   row-same : (row : Row) → partRow p a row ≡ partRow p b row
   unfolding partRow partEntries ownEntries
   row-same row =
-      ap (λ (l : List Float). rowOf (laidOver l (blankRow .entries)))
+      ap (λ (l : List Float). rowOf (laid l (blankRow .entries)))
       (gathered-same (liveLinks a) _ _ (λ j h. rw (same-mask-at a b g j, same-start a b g j))
       ∙ ap (λ (n : ℕ). gathered n (λ j. cond (goesOn p j) (ownEntries b (row .entries) j) [])) same-live)
 

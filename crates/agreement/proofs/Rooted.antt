@@ -11,6 +11,9 @@ use lib.Dec.{eqb}
 use lib.ListN.{length, take, drop, getD, replicate, length-drop}
 use lib.Seq.{take-nil, take-take, take-append-le}
 use lib.Ieee.{Float}
+use Rattle.lists.proofs.Modified.{length-modify, take-modify, map-modify, map-modify-same}
+use Rattle.arm.specs.Sized.{Sized}
+use Rattle.lists.specs.Lists.{modify}
 use Rattle.limits.specs.Limits.{linkLimit, dofLimit}
 use Rattle.floats.specs.Floats.{zero32}
 use Rattle.masks.specs.Masks.{dofsOf}
@@ -20,14 +23,11 @@ use Rattle.planar.specs.declared.Pose.{Pose}
 use Rattle.arm.specs.declared.Link.{Link}
 use Rattle.arm.specs.declared.Row.{Row}
 use Rattle.arm.specs.declared.Arm.{Arm}
-use Rattle.arm.specs.Arm.{liveLinks, linksOf, couplingsOf, parentOf, lockedOf, parentsOf, masksOf, maskAt, dofCountOf, entriesTo, rowsOf}
-use Rattle.arm.specs.Edits.{modify}
+use Rattle.arm.specs.Arm.{liveLinks, linksOf, couplingsOf, parentOf, lockedOf, parentsOf, masksOf, maskAt, dofCountOf, entriesTo, rowsOf, noLink}
 use Rattle.arm.specs.HandedIn.{armRefusal}
-use Rattle.arm.specs.Agree.{Agree, Sized}
+use Rattle.arm.specs.Agree.{Agree}
 use Rattle.arm.proofs.Live.{masks-live, mask-there, dof-count-le}
-use Rattle.arm.proofs.Modified.{length-modify, take-modify, map-modify, map-modify-same}
-use Rattle.kinematics.specs.State.{noLink}
-use Rattle.settled.proofs.Accepted.{accepted}
+use Rattle.one_link.proofs.Accepted.{accepted}
 use Rattle.root_change.specs.Root.{rootLink, widened, narrowed, rootRow, rootMask, rootRows, rootChanged}
 use Rattle.root_change.proofs.Settled.{Kind, root-kind, kinds, root-locked}
 use Rattle.agreement.proofs.Rows.{of-rows}

@@ -5,11 +5,11 @@ use mathlib.Core.List.{List, [], _∷_, map}
 use native.Mathlib.Omega.{arith}
 use lib.ListN.{length, getD}
 use lib.Ieee.{Float}
+use Rattle.arm.specs.Sized.{Sized}
 use Rattle.limits.specs.Limits.{dofLimit}
 use Rattle.arm.specs.declared.Row.{Row}
 use Rattle.arm.specs.declared.Arm.{Arm}
 use Rattle.arm.specs.Arm.{dofCountOf, entriesOf, entriesTo, rowsOf}
-use Rattle.arm.specs.Agree.{Sized}
 
 -- f reads the first n entries of a row
 module _ {B : Type 0} (n : ℕ) (f : Row → B) (g : List Float → B) (reads : (row : Row) → length (row .entries) ≡ dofLimit → f row ≡ g (entriesTo n row)) where

@@ -17,13 +17,12 @@ use Rattle.multibody_joint.specs.Joint.{coordinateOf}
 use Rattle.multibody_joint.specs.Motion.{entryAt, integratedAt, integrated}
 use Rattle.arm.specs.declared.Link.{Link}
 use Rattle.arm.specs.declared.Arm.{Arm}
-use Rattle.arm.specs.Arm.{liveLinks, linksOf, parentOf, lockedOf, parentsOf, masksOf, maskAt, startAt, dofCountOf, entriesTo, rowsOf}
+use Rattle.arm.specs.Arm.{liveLinks, linksOf, parentOf, lockedOf, parentsOf, masksOf, maskAt, startAt, dofCountOf, entriesTo, rowsOf, noLink, linkAt}
 use Rattle.arm.specs.HandedIn.{armRefusal}
 use Rattle.arm.specs.Agree.{Agree}
 use Rattle.arm.proofs.Live.{mask-there, part-within}
 use Rattle.arm.proofs.Agree.{same-start}
-use Rattle.kinematics.specs.State.{noLink, linkAt}
-use Rattle.working.proofs.Tests.{Standing, map-same}
+use Rattle.full_working.proofs.Tests.{Standing, map-same}
 use Rattle.whole_step.specs.Step.{linkIntegrated, linkAfter, linksAfter, velocitiesOf, armAfter}
 use Rattle.whole_step.proofs.Settled.{sized-after, link-at, stands}
 use Rattle.agreement.proofs.Worked.{same-link, same-links, agree-relinked, Workable, workable}

@@ -6,6 +6,7 @@ use borrow.Author.Tests.{leb-true, ltb-true}
 use lib.Dec.{ltb}
 use lib.ListN.{length}
 use lib.Ieee.{Float}
+use Rattle.arm.specs.Sized.{Sized}
 use Rattle.limits.specs.Limits.{tableSize}
 use Rattle.refusal.specs.Refusal.{unlessOf}
 use Rattle.refusal.proofs.Laws.{none-of}
@@ -16,11 +17,11 @@ use Rattle.topology.specs.Parents.{marks}
 use Rattle.arm.specs.declared.Arm.{Arm}
 use Rattle.arm.specs.Arm.{tagsOf}
 use Rattle.arm.specs.HandedIn.{armRefusal}
-use Rattle.arm.specs.Agree.{Agree, Sized}
+use Rattle.arm.specs.Agree.{Agree}
 use Rattle.arm.proofs.Agree.{same-parents, same-mask-at, same-arm-refusal}
 use Rattle.kinematics.specs.State.{marked, only}
-use Rattle.working.specs.Outcome.{tablesFit, workedAll}
-use Rattle.working.specs.Full.{fullRefusal, fullWorking}
+use Rattle.full_working.specs.Outcome.{tablesFit, workedAll}
+use Rattle.full_working.specs.Full.{fullRefusal, fullWorking}
 use Rattle.one_link_move.specs.declared.Change.{Change}
 use Rattle.one_link_move.specs.Move.{moveRefusal, linkMoved}
 use Rattle.addition.specs.declared.NewLink.{NewLink}
@@ -30,7 +31,7 @@ use Rattle.whole_step.specs.Step.{armAfter, stepRefusal, wholeStep}
 use Rattle.root_change.specs.Root.{isRootMask, rootRefusal, changedRoot}
 use Rattle.part_arm.specs.Places.{placesOf}
 use Rattle.part_arm.specs.Part.{partArm}
-use Rattle.parts.specs.Answers.{splitRefusal, armSplit, partRefusal, armPart}
+use Rattle.arm_split.specs.Answers.{splitRefusal, armSplit, partRefusal, armPart}
 use Rattle.agreement.specs.Respects.{Alike, Respects, AllRespect}
 use Rattle.agreement.proofs.Worked.{call-alike, workable, marked-alike, all-alike}
 use Rattle.agreement.proofs.Moved.{workable-moved}

@@ -13,20 +13,20 @@ use Rattle.masks.specs.Starts.{totalOf}
 use Rattle.topology.specs.Parents.{parentsFit}
 use Rattle.arm.specs.declared.Link.{Link}
 use Rattle.arm.specs.declared.Arm.{Arm}
-use Rattle.arm.specs.Arm.{liveLinks, linksOf, couplingsOf, lockedOf, parentsOf, masksOf, dofCountOf, entriesTo, rowsOf}
+use Rattle.arm.specs.Arm.{liveLinks, linksOf, couplingsOf, lockedOf, parentsOf, masksOf, dofCountOf, entriesTo, rowsOf, noLink, linkAt}
 use Rattle.arm.specs.Edits.{withLinks}
 use Rattle.arm.specs.HandedIn.{parentsEarlier, armRefusal}
 use Rattle.arm.specs.Agree.{Agree}
 use Rattle.arm.proofs.Accepted.{counts-accepted, parents-accepted}
 use Rattle.arm.proofs.Agree.{same-masks}
-use Rattle.kinematics.specs.State.{State, noLink, linkAt, every, stateAfter, fineAfter, cleared}
+use Rattle.kinematics.specs.State.{State, stateAfter, fineAfter, cleared, everyLink}
 use Rattle.kinematics.specs.Promises.{Fits}
 use Rattle.kinematics.proofs.Store.{after-blank}
 use Rattle.kinematics.proofs.Promises.{after-good, up-to}
-use Rattle.working.specs.Outcome.{Outcome, unlessRefused, workedAll, workedMarked}
-use Rattle.settled.proofs.Parents.{parent-le}
-use Rattle.settled.proofs.Relinked as relinked
-use Rattle.settled.proofs.Settles.{workedTo, worked-all, worked-marked, cleared-long}
+use Rattle.full_working.specs.Outcome.{Outcome, unlessRefused, workedAll, workedMarked}
+use Rattle.one_link.proofs.Parents.{parent-le}
+use Rattle.one_link.proofs.Relinked as relinked
+use Rattle.one_link.proofs.Settles.{workedTo, worked-all, worked-marked, cleared-long}
 use Rattle.agreement.specs.Respects.{Alike}
 
 -- ---- refused, or not
@@ -154,4 +154,4 @@ module _ (a b new new′ : Arm) (t : List Float) (g : Agree a b) (w : Workable n
   marked-alike m m′ e = rw (← e, worked-marked a new t (w .few) long m, worked-marked b new′ t few′ long m) (pass-alike m t long)
 
   pub all-alike : Alike (workedAll a new t) (workedAll b new′ t)
-  all-alike = rw (worked-all a new t (w .few) long, worked-all b new′ t few′ long) (pass-alike every (cleared t) (cleared-long t))
+  all-alike = rw (worked-all a new t (w .few) long, worked-all b new′ t few′ long) (pass-alike everyLink (cleared t) (cleared-long t))

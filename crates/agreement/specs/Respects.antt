@@ -3,19 +3,20 @@ use Prim.Native.Nat.{ℕ}
 use mathlib.Core.Path.{_≡_}
 use mathlib.Core.List.{List}
 use lib.Ieee.{Float}
+use Rattle.arm.specs.Sized.{Sized}
 use Rattle.planar.specs.declared.Pose.{Pose}
 use Rattle.topology.specs.declared.Split.{Split}
 use Rattle.arm.specs.declared.Arm.{Arm}
-use Rattle.arm.specs.Agree.{Agree, AlikeEdited, Sized}
-use Rattle.working.specs.Outcome.{Outcome}
-use Rattle.working.specs.Full.{fullWorking}
+use Rattle.arm.specs.Agree.{Agree, AlikeEdited}
+use Rattle.full_working.specs.Outcome.{Outcome}
+use Rattle.full_working.specs.Full.{fullWorking}
 use Rattle.one_link_move.specs.declared.Change.{Change}
 use Rattle.one_link_move.specs.Move.{linkMoved}
 use Rattle.addition.specs.declared.NewLink.{NewLink}
 use Rattle.addition.specs.Addition.{linkAdded}
 use Rattle.whole_step.specs.Step.{wholeStep}
 use Rattle.root_change.specs.Root.{changedRoot}
-use Rattle.parts.specs.Answers.{armSplit, armPart}
+use Rattle.arm_split.specs.Answers.{armSplit, armPart}
 
 -- the same refusal, arms that agree, the same memory
 pub record Alike (x y : Outcome) : Type 0 where

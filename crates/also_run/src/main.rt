@@ -34,8 +34,8 @@ use multibody_joint::Spring;
 use numerals::bits_of;
 use one_link_move::Change;
 use one_link_move::move_link;
-use parts::part;
-use parts::split;
+use arm_split::part;
+use arm_split::split;
 use planar::Point;
 use planar::Pose;
 use planar::Rotation;
@@ -47,7 +47,7 @@ use topology::Split;
 use unit_multibody_joint::Limits;
 use unit_multibody_joint::limit_row;
 use whole_step::step;
-use working::empty;
+use full_working::empty;
 
 // ---- Words
 

@@ -6,26 +6,27 @@ use native.Mathlib.Omega.{arith}
 use borrow.Author.Tests.{le-leb, lt-leb}
 use lib.ListN.{length}
 use lib.Ieee.{Float}
+use Rattle.lists.specs.Tests.{every}
+use Rattle.lists.specs.Numbers.{allBelow}
 use Rattle.limits.specs.Limits.{tableSize}
 use Rattle.refusal.specs.Refusal.{lowerOf}
 use Rattle.masks.specs.Starts.{totalOf}
 use Rattle.topology.specs.declared.Split.{Split}
-use Rattle.topology.specs.Tables.{allBelow}
 use Rattle.topology.specs.Parents.{parentsFit}
 use Rattle.arm.specs.declared.Arm.{Arm}
 use Rattle.arm.specs.Arm.{linksOf, couplingsOf, tagsOf, parentsOf, masksOf, dofCountOf, rowsOf}
-use Rattle.arm.specs.HandedIn.{every, unique, tagsUnique, parentsEarlier, rootFits, rowsFinite, armEntries, armRefusal}
+use Rattle.arm.specs.HandedIn.{unique, tagsUnique, parentsEarlier, rootFits, rowsFinite, armEntries, armRefusal}
 use Rattle.kinematics.specs.Pass.{run as pass}
 use Rattle.kinematics.specs.State.{stateAfter, fineAfter, cleared}
-use Rattle.working.specs.Outcome.{Outcome}
-use Rattle.working.specs.Full.{fullRefusal, fullWorking, Settled}
-use Rattle.working.specs.Empty.{emptyArm, emptied}
+use Rattle.full_working.specs.Outcome.{Outcome}
+use Rattle.full_working.specs.Full.{fullRefusal, fullWorking, Settled}
+use Rattle.full_working.specs.Empty.{emptyArm, emptied}
 use Rattle.arm_edits.specs.Rows.{writeRefusal, withEntry}
 use Rattle.arm_edits.specs.Springs.{springRefusal, withLinkSpring}
 use Rattle.arm_edits.specs.Couplings.{couplingRefusal, withCoupling}
-use Rattle.settled.specs.Promise.{Right}
-use Rattle.settled.proofs.Accepted.{accepted}
-use Rattle.settled.proofs.Settles.{settles}
+use Rattle.one_link.specs.Promise.{Right}
+use Rattle.one_link.proofs.Accepted.{accepted}
+use Rattle.one_link.proofs.Settles.{settles}
 use Rattle.one_link_move.specs.Change.{movedInputs}
 use Rattle.one_link_move.specs.Move.{moveRefusal}
 use Rattle.one_link_move.proofs.Move.{the-move}
@@ -37,10 +38,10 @@ use Rattle.whole_step.specs.Step.{armAfter, stepRefusal, wholeStep}
 use Rattle.whole_step.proofs.Settled.{step-keeps}
 use Rattle.root_change.specs.Root.{rootChanged, rootRefusal, changedRoot}
 use Rattle.root_change.proofs.Settled.{root-keeps}
-use Rattle.parts.specs.Answers.{partRefusal, armPart}
+use Rattle.arm_split.specs.Answers.{partRefusal, armPart}
 use Rattle.part_arm.specs.Places.{placesOf}
 use Rattle.part_arm.specs.Part.{partArm}
-use Rattle.parts.proofs.Theorems as of-part
+use Rattle.arm_split.proofs.Theorems as of-part
 use Rattle.always.specs.Calls.{Call, addition, rowWrite, spring, coupling, move, step, rootChange, working, called, run}
 use Rattle.always.specs.Promise.{NeverStale, Begins, empty, part, Always, Short}
 use Rattle.always.proofs.Rows.{write-right}
@@ -60,7 +61,7 @@ Holds o = Held (o .answer .arm) (o .memory)
 -- ---- the beginning
 
 empty-accepted : armRefusal emptyArm ≡ 0
-unfolding emptyArm armRefusal armEntries lowerOf linksOf couplingsOf tagsOf parentsOf masksOf dofCountOf rowsOf totalOf every unique tagsUnique parentsEarlier parentsFit allBelow rootFits rowsFinite
+unfolding emptyArm armRefusal armEntries lowerOf linksOf couplingsOf tagsOf parentsOf masksOf dofCountOf rowsOf totalOf unique tagsUnique parentsEarlier parentsFit allBelow rootFits rowsFinite
 empty-accepted = refl
 
 empty-settled : (t : List Float) → Settled emptyArm (cleared t)

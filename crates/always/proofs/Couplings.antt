@@ -9,29 +9,29 @@ use borrow.Author.Tests.{le-leb}
 use lib.Dec.{leb}
 use lib.ListN.{take, set, length-set}
 use lib.Ieee.{Float}
+use Rattle.arm.specs.Sized.{Sized}
+use Rattle.lists.specs.Tests.{every}
+use Rattle.lists.proofs.Bools.{both-hold, both}
 use Rattle.limits.specs.Limits.{linkLimit, couplingLimit}
-use Rattle.refusal.proofs.Tests.{both-hold, both}
 use Rattle.floats.specs.Floats.{isFinite}
 use Rattle.masks.specs.Masks.{isAxis}
 use Rattle.arm.specs.declared.Coupling.{Coupling}
 use Rattle.arm.specs.declared.Arm.{Arm}
 use Rattle.arm.specs.Arm.{linksOf, couplingsOf, isLink, tagsOf, parentsOf, masksOf, dofCountOf, rowsOf}
-use Rattle.arm.specs.HandedIn.{every, tagsUnique, parentsEarlier, couplingLinksFit, rootFits, couplingAxesFit, couplingFinite, rowsFinite}
-use Rattle.arm.specs.Agree.{Sized}
+use Rattle.arm.specs.HandedIn.{tagsUnique, parentsEarlier, couplingLinksFit, rootFits, couplingAxesFit, couplingFinite, rowsFinite}
 use Rattle.arm_edits.specs.declared.NewCoupling.{NewCoupling}
 use Rattle.arm_edits.specs.Couplings.{couplingEntries, couplingRefusal, couplingOf, withCoupling, couplingAdded}
 use Rattle.arm_edits.proofs.Accepted.{coupling-fits}
-use Rattle.working.specs.Outcome.{out}
-use Rattle.working.specs.Full.{Settled}
-use Rattle.working.proofs.Tests.{holds-in}
-use Rattle.settled.specs.Promise.{Right}
-use Rattle.settled.proofs.Settles.{facts, nowhere}
-use Rattle.settled.proofs.Right.{Edit}
+use Rattle.full_working.specs.Outcome.{out}
+use Rattle.full_working.specs.Full.{Settled}
+use Rattle.full_working.proofs.Tests.{holds-in}
+use Rattle.one_link.specs.Promise.{Right}
+use Rattle.one_link.proofs.Settles.{facts, nowhere}
+use Rattle.one_link.proofs.Right.{Edit}
 use Rattle.always.proofs.Unworked.{still-ready, edit-right}
 
 -- a test of each, and of one that is stored behind them
 one-more : {A : Type 0} (test : A → Bool) (n : ℕ) (xs : List A) (x : A) → every test (take n xs) ≡ true → test x ≡ true → every test (take (suc n) (set xs n x)) ≡ true
-unfolding every
 one-more test n [] x e h = refl
 one-more test zero (y ∷ xs) x e h = both h refl
 one-more test (suc n) (y ∷ xs) x e h = let p = both-hold (test y) (every test (take n xs)) e in both (p .0) (one-more test n xs x (p .1) h)

@@ -5,26 +5,25 @@ use mathlib.Core.Bool.{Bool, true, false}
 use mathlib.Core.List.{[]}
 use native.Mathlib.Omega.{arith}
 use lib.ListN.{length, getD, replicate, length-map, length-replicate, getD-replicate}
+use Rattle.lists.proofs.Gathered.{length-laid, length-chosen, chosen-le}
+use Rattle.lists.specs.Numbers.{chosen}
+use Rattle.lists.proofs.Lists.{map-at}
+use Rattle.lists.proofs.Numbers.{count-at}
 use Rattle.limits.specs.Limits.{linkLimit, couplingLimit, dofLimit}
 use Rattle.floats.specs.Floats.{zero32}
 use Rattle.multibody_joint.specs.Joint.{fixedJoint}
 use Rattle.topology.specs.declared.Split.{Split}
-use Rattle.topology.proofs.Tables.{count-at}
 use Rattle.arm.specs.declared.Link.{Link}
 use Rattle.arm.specs.declared.Arm.{Arm}
-use Rattle.arm.specs.Arm.{liveLinks, entriesOf}
-use Rattle.arm.proofs.Lists.{map-at}
+use Rattle.arm.specs.Arm.{liveLinks, entriesOf, noLink, linkAt, couplingAt}
 use Rattle.arm.proofs.Live.{dof-count-le}
-use Rattle.kinematics.specs.State.{noLink, linkAt}
-use Rattle.working.specs.Empty.{blankLink, blankCoupling, blankRow, emptyArm}
-use Rattle.part_arm.specs.Gathered.{chosen}
+use Rattle.full_working.specs.Empty.{blankLink, blankCoupling, blankRow, emptyArm}
 use Rattle.part_arm.specs.Places.{Places, placesOf}
-use Rattle.part_arm.specs.Part.{newLink, partLinks, partEntries, partRow, couplingAt, couplingStays, newCoupling, partCouplings, partArm}
-use Rattle.part_arm.proofs.Laid.{length-over, length-chosen, chosen-le}
-use Rattle.parts.specs.Words as of-parts
-use Rattle.parts.proofs.Picked.{chosen-at}
-use Rattle.parts.proofs.Passing.{links-few}
-use Rattle.parts.proofs.Theorems as of-part
+use Rattle.part_arm.specs.Part.{newLink, partLinks, partEntries, partRow, couplingStays, newCoupling, partCouplings, partArm}
+use Rattle.arm_split.specs.Words as of-parts
+use Rattle.arm_split.proofs.Picked.{chosen-at}
+use Rattle.arm_split.proofs.Passing.{links-few}
+use Rattle.arm_split.proofs.Theorems as of-part
 use Rattle.always.proofs.Shapes.{coordinates, Shaped, front-of, rows-sized}
 
 -- what holds of each that may be chosen
@@ -56,11 +55,11 @@ part-shaped a s k w =
     let p = placesOf a s k in
     record {
       sized = record {
-        links = length-over (partLinks p a) (emptyArm .links) (omega (arith, links-few p a, blank-shaped .sized .links)) ∙ blank-shaped .sized .links;
-        couplings = length-over (partCouplings p a) (emptyArm .couplings) (omega (arith, couplings-few p, blank-shaped .sized .couplings)) ∙ blank-shaped .sized .couplings;
+        links = length-laid (partLinks p a) (emptyArm .links) (omega (arith, links-few p a, blank-shaped .sized .links)) ∙ blank-shaped .sized .links;
+        couplings = length-laid (partCouplings p a) (emptyArm .couplings) (omega (arith, couplings-few p, blank-shaped .sized .couplings)) ∙ blank-shaped .sized .couplings;
         rows = length-map (a .rows) (partRow p a) ∙ w .sized .rows;
         entries = rows-sized a (w .sized) (partRow p a) (λ r e.
-            length-over (partEntries p a (r .entries)) (blankRow .entries) (omega (arith, length-replicate dofLimit zero32, of-part.rows a s k parts-sized (r .entries) e, dof-count-le (partArm p a)))
+            length-laid (partEntries p a (r .entries)) (blankRow .entries) (omega (arith, length-replicate dofLimit zero32, of-part.rows a s k parts-sized (r .entries) e, dof-count-le (partArm p a)))
             ∙ length-replicate dofLimit zero32);
       };
       three = λ j h.

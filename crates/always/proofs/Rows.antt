@@ -6,25 +6,26 @@ use mathlib.Core.Logic.{inl, inr}
 use mathlib.Core.List.{List, [], _∷_, map}
 use lib.ListN.{length, take, getD, set, length-set, List·getD-map}
 use lib.Ieee.{Float}
+use Rattle.lists.proofs.Modified.{length-modify, modify-field, modify-every}
+use Rattle.lists.proofs.Every.{every-map}
+use Rattle.arm.specs.Sized.{Sized}
+use Rattle.lists.specs.Lists.{modify}
+use Rattle.lists.proofs.Bools.{both-hold, both}
 use Rattle.limits.specs.Limits.{dofLimit}
-use Rattle.refusal.proofs.Tests.{both-hold, both}
 use Rattle.floats.specs.Floats.{isFinite, allFinite}
 use Rattle.arm.specs.declared.Row.{Row}
 use Rattle.arm.specs.declared.RowName.{RowName}
 use Rattle.arm.specs.declared.Arm.{Arm}
 use Rattle.arm.specs.Arm.{linksOf, couplingsOf, tagsOf, parentsOf, masksOf, dofCountOf, rowNumber, entriesOf, entriesTo, rowsOf}
-use Rattle.arm.specs.Edits.{modify, dofAt}
+use Rattle.arm.specs.Edits.{dofAt}
 use Rattle.arm.specs.HandedIn.{tagsUnique, parentsEarlier, rootFits, rowsFinite}
-use Rattle.arm.specs.Agree.{Sized}
-use Rattle.arm.proofs.Every.{every-map}
-use Rattle.arm.proofs.Modified.{length-modify, modify-field, modify-every}
 use Rattle.arm_edits.specs.Rows.{writeEntries, writeRefusal, entrySet, withEntry, rowWritten}
-use Rattle.working.specs.Outcome.{out}
-use Rattle.working.specs.Full.{Settled}
-use Rattle.working.proofs.Tests.{holds-in}
-use Rattle.settled.specs.Promise.{Right}
-use Rattle.settled.proofs.Settles.{facts, nowhere}
-use Rattle.settled.proofs.Right.{Edit}
+use Rattle.full_working.specs.Outcome.{out}
+use Rattle.full_working.specs.Full.{Settled}
+use Rattle.full_working.proofs.Tests.{holds-in}
+use Rattle.one_link.specs.Promise.{Right}
+use Rattle.one_link.proofs.Settles.{facts, nowhere}
+use Rattle.one_link.proofs.Right.{Edit}
 use Rattle.always.proofs.Unworked.{still-ready, edit-right}
 
 -- a finite float stored among finite ones

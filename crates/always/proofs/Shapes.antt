@@ -9,29 +9,30 @@ use lib.Dec.{eqb, ltb}
 use lib.ListN.{length, take, drop, getD, set, replicate, length-set, length-map, length-append, length-drop, List·getD-map, List·getD-append}
 use lib.Seq.{getD-append-add, getD-drop, length-take-le}
 use lib.Ieee.{Float}
+use Rattle.lists.proofs.Modified.{length-modify, modify-same, modify-other, modify-field}
+use Rattle.lists.proofs.Lists.{map-at}
+use Rattle.arm.specs.Sized.{Sized}
+use Rattle.lists.specs.Lists.{modify}
+use Rattle.lists.proofs.Numbers.{length-each, getD-each}
+use Rattle.lists.specs.Numbers.{each}
 use Rattle.limits.specs.Limits.{linkLimit, dofLimit}
 use Rattle.floats.specs.Floats.{zero32}
 use Rattle.planar.specs.declared.Pose.{Pose}
 use Rattle.planar.specs.Rotation.{rotationAt}
 use Rattle.multibody_joint.specs.Joint.{withMotion, freeJoint, fixedJoint, freePosSet}
 use Rattle.multibody_joint.specs.Motion.{integrated}
-use Rattle.topology.specs.Tables.{each}
-use Rattle.topology.proofs.Tables.{length-each, getD-each}
 use Rattle.arm.specs.declared.Link.{Link}
 use Rattle.arm.specs.declared.Row.{Row}
 use Rattle.arm.specs.declared.Arm.{Arm}
-use Rattle.arm.specs.Arm.{liveLinks, entriesOf}
-use Rattle.arm.specs.Edits.{modify, withLinks}
-use Rattle.arm.specs.Agree.{Sized}
-use Rattle.arm.proofs.Lists.{map-at}
-use Rattle.arm.proofs.Modified.{length-modify, modify-same, modify-other, modify-field}
+use Rattle.arm.specs.Arm.{liveLinks, entriesOf, noLink, linkAt}
+use Rattle.arm.specs.Edits.{withLinks}
 use Rattle.kinematics.specs.Link.{withPlace}
-use Rattle.kinematics.specs.State.{State, state, noLink, linkAt, parentOf, inputsOf, putKept, keptOps, every, stateAfter, fineAfter, cleared}
+use Rattle.kinematics.specs.State.{State, state, inputsOf, putKept, keptOps, stateAfter, fineAfter, cleared, parentAt, everyLink}
 use Rattle.kinematics.specs.Answers.{passed, refreshAll}
 use Rattle.kinematics.proofs.Pass.{run-view}
 use Rattle.kinematics.proofs.Store.{blank, set-field, after-blank}
-use Rattle.working.specs.Outcome.{Outcome, out, says, unlessRefused, tablesFit, workedBy, workedAll}
-use Rattle.settled.specs.Promise.{Right}
+use Rattle.full_working.specs.Outcome.{Outcome, out, says, unlessRefused, tablesFit, workedBy, workedAll}
+use Rattle.one_link.specs.Promise.{Right}
 use Rattle.one_link_move.specs.declared.Change.{Change}
 use Rattle.one_link_move.specs.declared.Change.the-variants.{Coordinate, Frames, Centre}
 use Rattle.one_link_move.specs.Change.{coordinateSet, changed, movedInputs}
@@ -56,20 +57,20 @@ pub record Shaped (a : Arm) : Type 0 where
 
 after-length : (ls : List Link) (n : ℕ) (b : ℕ → Bool) (t : List Float) → length (stateAfter ls n b t .links) ≡ length ls
 unfolding stateAfter putKept
-after-length ls n b t = run-view keptOps (parentOf ls) (inputsOf ls) (λ (s : State). length (s .links)) (state ls t) b (λ s k o e. length-set (s .links) k _) n
+after-length ls n b t = run-view keptOps (parentAt ls) (inputsOf ls) (λ (s : State). length (s .links)) (state ls t) b (λ s k o e. length-set (s .links) k _) n
 
 -- what holds of a refusal by 12, and of the new arm with any results
 worked : (P : Outcome → Type 0) (old new : Arm) (t : List Float) → P (says 12 old t)
     → ((s : State) → length (s .links) ≡ length (new .links) → ((j : ℕ) → blank (linkAt (s .links) j) ≡ blank (linkAt (new .links) j)) → P (says 0 (withLinks new (s .links)) (s .tables)))
     → P (workedAll old new t)
 unfolding workedAll workedBy refreshAll passed
-worked P old new t no-result results = go (tablesFit t && fineAfter (new .links) (liveLinks new) every (cleared t))
+worked P old new t no-result results = go (tablesFit t && fineAfter (new .links) (liveLinks new) everyLink (cleared t))
   where
     s : State
-    s = stateAfter (new .links) (liveLinks new) every (cleared t)
+    s = stateAfter (new .links) (liveLinks new) everyLink (cleared t)
 
     go : (b : Bool) → P (out (workedBy old new (passed b s (new .links) t .answer)) (passed b s (new .links) t .memory))
-    go true = results s (after-length (new .links) (liveLinks new) every (cleared t)) (after-blank (new .links) (liveLinks new) every (cleared t))
+    go true = results s (after-length (new .links) (liveLinks new) everyLink (cleared t)) (after-blank (new .links) (liveLinks new) everyLink (cleared t))
     go false = no-result
 
 three-after : (old new : Arm) (t : List Float) → Threes old → Threes new → Threes (workedAll old new t .answer .arm)

@@ -9,7 +9,11 @@ use lib.ListN.{length, set, length-set}
 use lib.Seq.{take-all}
 use lib.Ieee.{Float}
 use native.Mathlib.Omega.{arith}
-use Rattle.refusal.proofs.Tests.{both-hold, both}
+use Rattle.lists.proofs.Lists.{same-map}
+use Rattle.lists.proofs.Modified.{length-modify, modify-other, modify-field, modify-tests}
+use Rattle.arm.specs.Sized.{Sized}
+use Rattle.lists.specs.Lists.{modify}
+use Rattle.lists.proofs.Bools.{both-hold, both}
 use Rattle.floats.specs.Floats.{isFinite, allFinite}
 use Rattle.masks.specs.Starts.{startOf}
 use Rattle.planar.specs.Poses.{finiteRotation, finitePoint, finitePose}
@@ -19,26 +23,23 @@ use Rattle.multibody_joint.specs.Joint.{slidBy, slidPose, bodyToParent}
 use Rattle.multibody_joint.specs.Springs.{withSpring, springSet}
 use Rattle.arm.specs.declared.Link.{Link}
 use Rattle.arm.specs.declared.Arm.{Arm}
-use Rattle.arm.specs.Arm.{liveLinks, linksOf}
-use Rattle.arm.specs.Edits.{modify, withLinks, withJoint}
+use Rattle.arm.specs.Arm.{liveLinks, linksOf, noLink, linkAt, lockedOf}
+use Rattle.arm.specs.Edits.{withLinks, withJoint}
 use Rattle.arm.specs.HandedIn.{jointFinite, linkFinite, angleFits, linkAngleFits}
-use Rattle.arm.specs.Agree.{Sized}
-use Rattle.arm.proofs.Modified.{length-modify, modify-other, modify-field, modify-tests}
 use Rattle.arm_edits.specs.Springs.{springFinite, springEntries, springRefusal, linkSpringSet, withLinkSpring, armSpringSet}
 use Rattle.kinematics.specs.Blocks.{blockAt}
 use Rattle.kinematics.specs.Link.{Kept, Inputs, rootPosed, laterPosed, keptOf, rootKept, laterKept, finiteKept}
-use Rattle.kinematics.specs.State.{State, state, noLink, linkAt, parentOf, lockedOf, inputsOf, keptAt, keptOps}
+use Rattle.kinematics.specs.State.{State, state, inputsOf, keptAt, keptOps, parentAt}
 use Rattle.kinematics.specs.Pass.{newAt}
 use Rattle.kinematics.specs.Promises.{Fresh}
 use Rattle.kinematics.proofs.Pass.{new-same}
-use Rattle.working.specs.Outcome.{out}
-use Rattle.working.specs.Full.{Settled}
-use Rattle.working.proofs.Tests.{standing, holds-in, passes, not-refused, still-passes}
-use Rattle.settled.specs.Promise.{Right}
-use Rattle.settled.proofs.Accepted.{Accepted, accepted, not-refused as none-refused}
-use Rattle.settled.proofs.Lists.{same-map}
-use Rattle.settled.proofs.Settles.{facts, nowhere}
-use Rattle.settled.proofs.Right.{Edit}
+use Rattle.full_working.specs.Outcome.{out}
+use Rattle.full_working.specs.Full.{Settled}
+use Rattle.full_working.proofs.Tests.{standing, holds-in, passes, not-refused, still-passes}
+use Rattle.one_link.specs.Promise.{Right}
+use Rattle.one_link.proofs.Accepted.{Accepted, accepted, not-refused as none-refused}
+use Rattle.one_link.proofs.Settles.{facts, nowhere}
+use Rattle.one_link.proofs.Right.{Edit}
 use Rattle.always.proofs.Unworked.{edit-right}
 use Rattle.always.proofs.Rows.{set-finite}
 use Rattle.always.proofs.Shapes.{coordinates, Threes, coordinates-stay}
@@ -134,8 +135,8 @@ module _ (a : Arm) (t : List Float) (sized : Sized a) (settled : Settled a t) (l
   same-length : length ls′ ≡ length ls
   same-length = length-modify (linkSpringSet axis s) link ls
 
-  parent-same : (j : ℕ) → parentOf ls′ j ≡ parentOf ls j
-  unfolding parentOf
+  parent-same : (j : ℕ) → parentAt ls′ j ≡ parentAt ls j
+  unfolding parentAt
   parent-same j = ap (λ (l : Link). l .parent) (same j)
 
   inputs-same : (j : ℕ) → plain (inputsOf ls′ j) ≡ plain (inputsOf ls j)
@@ -143,7 +144,7 @@ module _ (a : Arm) (t : List Float) (sized : Sized a) (settled : Settled a t) (l
   inputs-same j =
       let p = same j in
       let m = ap (λ (ms : List ℕ). startOf ms j) (same-map lockedOf noLink ls′ ls same-length (λ i. ap lockedOf (same i))) in
-      let u = ap (λ (l : Link). l .centre) (same (parentOf ls′ j)) ∙ ap (λ (i : ℕ). linkAt ls i .centre) (parent-same j) in
+      let u = ap (λ (l : Link). l .centre) (same (parentAt ls′ j)) ∙ ap (λ (i : ℕ). linkAt ls i .centre) (parent-same j) in
       λ i. record { joint = p i .joint; centre = p i .centre; start = m i; above = u i }
 
   as-was : (j : ℕ) → keptAt (state ls′ t) j ≡ keptAt (state ls t) j
@@ -154,10 +155,10 @@ module _ (a : Arm) (t : List Float) (sized : Sized a) (settled : Settled a t) (l
   still-fresh j e =
       as-was j
       ∙ e
-      ∙ result-plain (parentOf ls) (inputsOf ls) (state ls t) j
-      ∙ new-same keptOps (parentOf ls) (λ i. plain (inputsOf ls i)) (parentOf ls′) (λ i. plain (inputsOf ls′ i)) (state ls t) (state ls′ t) j
-      (sym (parent-same j)) (sym (inputs-same j)) (λ q. sym (as-was (parentOf ls j)))
-      ∙ sym (result-plain (parentOf ls′) (inputsOf ls′) (state ls′ t) j)
+      ∙ result-plain (parentAt ls) (inputsOf ls) (state ls t) j
+      ∙ new-same keptOps (parentAt ls) (λ i. plain (inputsOf ls i)) (parentAt ls′) (λ i. plain (inputsOf ls′ i)) (state ls t) (state ls′ t) j
+      (sym (parent-same j)) (sym (inputs-same j)) (λ q. sym (as-was (parentAt ls j)))
+      ∙ sym (result-plain (parentAt ls′) (inputsOf ls′) (state ls′ t) j)
 
   still-ok : springFinite s ≡ true → Accepted a → Accepted (withLinks a ls′)
   unfolding linksOf angleFits

@@ -5,17 +5,17 @@ use mathlib.Core.Bool.{Bool}
 use mathlib.Core.List.{List}
 use lib.ListN.{length}
 use lib.Ieee.{Float}
+use Rattle.arm.specs.Sized.{Sized}
 use Rattle.limits.specs.Limits.{linkLimit, tableSize}
 use Rattle.arm.specs.declared.Arm.{Arm}
 use Rattle.arm.specs.Edits.{edited}
-use Rattle.arm.specs.Agree.{Sized}
 use Rattle.kinematics.specs.State.{State}
 use Rattle.kinematics.specs.Promises.{Ready}
-use Rattle.working.specs.Outcome.{out, says, unlessRefused, workedMarked}
-use Rattle.working.specs.Full.{Settled}
-use Rattle.settled.specs.Promise.{Right}
-use Rattle.settled.proofs.Settles.{workedTo, worked-marked, nowhere, left-alone, untested, Facts, facts}
-use Rattle.settled.proofs.Right.{Edit, right}
+use Rattle.full_working.specs.Outcome.{out, says, unlessRefused, workedMarked}
+use Rattle.full_working.specs.Full.{Settled}
+use Rattle.one_link.specs.Promise.{Right}
+use Rattle.one_link.proofs.Settles.{workedTo, worked-marked, nowhere, left-alone, untested, Facts, facts}
+use Rattle.one_link.proofs.Right.{Edit, right}
 
 -- links that stay are as fresh as they were
 pub still-ready : (a : Arm) (t : List Float) → Facts a t → Ready (a .links) (a .«link_count») nowhere t

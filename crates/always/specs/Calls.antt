@@ -10,8 +10,8 @@ use Rattle.arm_edits.specs.declared.NewCoupling.{NewCoupling}
 use Rattle.arm_edits.specs.Rows.{rowWritten}
 use Rattle.arm_edits.specs.Springs.{armSpringSet}
 use Rattle.arm_edits.specs.Couplings.{couplingAdded}
-use Rattle.working.specs.Outcome.{Outcome, out}
-use Rattle.working.specs.Full.{fullWorking}
+use Rattle.full_working.specs.Outcome.{Outcome, out}
+use Rattle.full_working.specs.Full.{fullWorking}
 use Rattle.one_link_move.specs.declared.Change.{Change}
 use Rattle.one_link_move.specs.Move.{linkMoved}
 use Rattle.addition.specs.declared.NewLink.{NewLink}

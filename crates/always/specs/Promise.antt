@@ -7,10 +7,10 @@ use lib.Ieee.{Float}
 use Rattle.limits.specs.Limits.{tableSize}
 use Rattle.topology.specs.declared.Split.{Split}
 use Rattle.arm.specs.declared.Arm.{Arm}
-use Rattle.working.specs.Outcome.{Outcome, says}
-use Rattle.working.specs.Full.{Settled}
-use Rattle.working.specs.Empty.{emptyArm, emptied}
-use Rattle.settled.specs.Promise.{Right}
+use Rattle.full_working.specs.Outcome.{Outcome, says}
+use Rattle.full_working.specs.Full.{Settled}
+use Rattle.full_working.specs.Empty.{emptyArm, emptied}
+use Rattle.one_link.specs.Promise.{Right}
 use Rattle.one_link_move.specs.declared.Change.{Change}
 use Rattle.one_link_move.specs.Change.{movedInputs}
 use Rattle.one_link_move.specs.Move.{moveRefusal, linkMoved}
@@ -19,7 +19,7 @@ use Rattle.addition.specs.declared.NewLink.{NewLink}
 use Rattle.addition.specs.NewLink.{addedInputs}
 use Rattle.addition.specs.Addition.{addRefusal, linkAdded}
 use Rattle.addition.specs.Promise.{IsAdded}
-use Rattle.parts.specs.Answers.{armPart}
+use Rattle.arm_split.specs.Answers.{armPart}
 use Rattle.always.specs.Calls.{Call, called, run}
 
 -- what holds of an arm and its lent memory, whatever was called before

@@ -7,10 +7,11 @@ use mathlib.Core.List.{List, _∷_}
 use native.Mathlib.Nat.{eq-zero-or-pos}
 use native.Mathlib.Omega.{arith}
 use borrow.Author.Tests.{leb-true, ltb-true}
+use Rattle.lists.proofs.Bools.{both-hold}
 use Rattle.limits.specs.Limits.{linkLimit, couplingLimit}
 use Rattle.refusal.specs.Refusal.{unlessOf, lowerOf, lowest}
 use Rattle.refusal.proofs.Laws.{is-lowest}
-use Rattle.refusal.proofs.Tests.{both-hold, holds}
+use Rattle.refusal.proofs.Tests.{holds}
 use Rattle.arm.specs.declared.Arm.{Arm}
 use Rattle.arm.specs.Arm.{liveLinks, isLink}
 use Rattle.arm.specs.HandedIn.{countsFit, parentsEarlier, couplingsLinksFit, linkNumbersFit, armEntries, armRefusal}

@@ -9,6 +9,7 @@ use native.Mathlib.Omega.{arith}
 use lib.Dec.{eqb}
 use lib.ListN.{length, take, getD, length-take, length-map}
 use lib.Seq.{getD-take, length-take-le}
+use Rattle.lists.proofs.Lists.{map-take, map-at}
 use Rattle.limits.specs.Limits.{linkLimit, dofLimit}
 use Rattle.masks.specs.Masks.{dofsOf}
 use Rattle.masks.specs.Starts.{totalOf, startOf}
@@ -18,7 +19,6 @@ use Rattle.arm.specs.declared.Link.{Link}
 use Rattle.arm.specs.declared.Arm.{Arm}
 use Rattle.arm.specs.Arm.{liveLinks, linksOf, lockedOf, parentOf, tagOf, tagsOf, parentsOf, masksOf, maskAt, startAt, dofCountOf}
 use Rattle.arm.specs.HandedIn.{rootMaskFits}
-use Rattle.arm.proofs.Lists.{map-take, map-at}
 
 -- whatever the arrays are, no more count than fit
 pub masks-le : (a : Arm) → length (masksOf a) ≤ linkLimit

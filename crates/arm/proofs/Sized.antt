@@ -9,11 +9,11 @@ use denote.Array.{each}
 use denote.Laws.{Is}
 use denote.Shadow.{shadow}
 use denote.Struct.Declared.{row}
+use Rattle.arm.specs.Sized.{Sized}
 use Rattle.limits.specs.Limits.{dofLimit}
 use Rattle.arm.specs.declared.Arm.{Arm}
 use Rattle.arm.specs.declared.Row.{Row}
 use Rattle.arm.specs.Arm.{entriesOf}
-use Rattle.arm.specs.Agree.{Sized}
 use Rattle.arm.proofs.Arm.{the-type}
 use Rattle.arm.proofs.Row as row-type
 use Rattle.arm.proofs.Shape.{links-length, couplings-length, rows-length, row-length}

@@ -7,9 +7,9 @@ use native.Mathlib.Omega.{arith}
 use borrow.Author.Tests.{leb-true, ltb-true}
 use lib.Dec.{ltb}
 use lib.Ieee.{Float}
+use Rattle.lists.proofs.Bools.{both-hold}
 use Rattle.limits.specs.Limits.{linkLimit, couplingLimit}
 use Rattle.refusal.specs.Refusal.{unlessOf}
-use Rattle.refusal.proofs.Tests.{both-hold}
 use Rattle.floats.specs.Floats.{isFinite}
 use Rattle.masks.specs.Masks.{isAxis, isFree}
 use Rattle.multibody_joint.specs.declared.Spring.{Spring}

@@ -9,6 +9,9 @@ use lib.Dec.{leb}
 use lib.ListN.{length, take, set, length-take}
 use lib.Seq.{take-set-lt, take-set-le, set-out, take-suc-set}
 use lib.Ieee.{Float}
+use Rattle.lists.proofs.Modified.{take-modify, map-modify, map-modify-same}
+use Rattle.arm.specs.Sized.{Sized}
+use Rattle.lists.specs.Lists.{modify}
 use Rattle.limits.specs.Limits.{couplingLimit}
 use Rattle.masks.specs.Starts.{totalOf}
 use Rattle.multibody_joint.specs.declared.Spring.{Spring}
@@ -19,10 +22,9 @@ use Rattle.arm.specs.declared.Row.{Row}
 use Rattle.arm.specs.declared.RowName.{RowName}
 use Rattle.arm.specs.declared.Arm.{Arm}
 use Rattle.arm.specs.Arm.{liveLinks, linksOf, couplingsOf, lockedOf, masksOf, dofCountOf, rowNumber, entriesTo, rowsOf}
-use Rattle.arm.specs.Edits.{modify, dofAt}
-use Rattle.arm.specs.Agree.{Agree, AlikeEdited, Sized}
+use Rattle.arm.specs.Edits.{dofAt}
+use Rattle.arm.specs.Agree.{Agree, AlikeEdited}
 use Rattle.arm.proofs.Agree.{same-mask-at, same-dof-at, same-entries, alike}
-use Rattle.arm.proofs.Modified.{take-modify, map-modify, map-modify-same}
 use Rattle.arm_edits.specs.declared.NewCoupling.{NewCoupling}
 use Rattle.arm_edits.specs.Rows.{writeRefusal, entrySet, withEntry, rowWritten}
 use Rattle.arm_edits.specs.Springs.{springRefusal, linkSpringSet, withLinkSpring, armSpringSet}

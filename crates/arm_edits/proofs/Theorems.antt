@@ -6,6 +6,9 @@ use native.Mathlib.Omega.{arith}
 use lib.ListN.{length, getD, set, length-map}
 use lib.Seq.{getD-set-same, getD-set-other}
 use lib.Ieee.{Float, nan}
+use Rattle.lists.proofs.Modified.{map-modify, modify-same, modify-other}
+use Rattle.arm.specs.Sized.{Sized}
+use Rattle.lists.specs.Lists.{modify}
 use Rattle.refusal.specs.Refusal.{Lowest}
 use Rattle.refusal.proofs.Laws.{is-lowest}
 use Rattle.multibody_joint.specs.declared.Spring.{Spring}
@@ -13,14 +16,12 @@ use Rattle.arm.specs.declared.Row.{Row}
 use Rattle.arm.specs.declared.RowName.{RowName}
 use Rattle.arm.specs.declared.Arm.{Arm}
 use Rattle.arm.specs.Arm.{rowNumber, entriesOf}
-use Rattle.arm.specs.Edits.{modify, dofAt}
-use Rattle.arm.specs.Agree.{Sized}
+use Rattle.arm.specs.Edits.{dofAt}
 use Rattle.arm.specs.Words.{FreeAxis, rowIn}
 use Rattle.arm.proofs.Accepted.{live}
 use Rattle.arm.proofs.Live.{links-live}
 use Rattle.arm.proofs.Edits.{row-there, dof-in-row}
 use Rattle.arm.proofs.Theorems.{accepted-made, dofs-apart}
-use Rattle.arm.proofs.Modified.{map-modify, modify-same, modify-other}
 use Rattle.arm_edits.specs.declared.NewCoupling.{NewCoupling}
 use Rattle.arm_edits.specs.Springs.{springEntries, springRefusal}
 use Rattle.arm_edits.specs.Couplings.{couplingEntries, couplingRefusal}

@@ -3,6 +3,7 @@ use Prim.Native.Nat.{ℕ}
 use mathlib.Core.List.{List, _∷_}
 use lib.ListN.{set}
 use lib.Ieee.{Float}
+use Rattle.lists.specs.Lists.{modify}
 use Rattle.refusal.specs.Refusal.{unlessOf, lowest}
 use Rattle.floats.specs.Floats.{isFinite}
 use Rattle.masks.specs.Masks.{isAxis, isFree}
@@ -11,7 +12,7 @@ use Rattle.arm.specs.declared.RowName.{RowName}
 use Rattle.arm.specs.declared.Arm.{Arm}
 use Rattle.arm.specs.declared.Edited.{Edited}
 use Rattle.arm.specs.Arm.{isLink, maskAt, rowNumber}
-use Rattle.arm.specs.Edits.{edited, modify, withRows, dofAt}
+use Rattle.arm.specs.Edits.{edited, withRows, dofAt}
 use Rattle.arm.specs.HandedIn.{armEntries}
 
 -- 6: the axis asked for is locked

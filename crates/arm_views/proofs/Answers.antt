@@ -6,14 +6,14 @@ use native.Mathlib.Omega.{arith}
 use lib.ListN.{length, take, getD}
 use lib.Seq.{getD-take}
 use lib.Ieee.{Float}
+use Rattle.lists.proofs.Lists.{map-at}
+use Rattle.refusal.specs.Counted.{countedOf}
+use Rattle.refusal.specs.declared.Counted.{Counted}
 use Rattle.limits.specs.Limits.{linkLimit}
-use Rattle.masks.specs.declared.Count.{Count}
-use Rattle.masks.specs.Answers.{counted}
 use Rattle.multibody_joint.specs.declared.Spring.{Spring}
 use Rattle.arm.specs.declared.Link.{Link}
 use Rattle.arm.specs.declared.Arm.{Arm}
 use Rattle.arm.specs.Arm.{liveLinks, linksOf}
-use Rattle.arm.proofs.Lists.{map-at}
 use Rattle.arm.proofs.Live.{links-live}
 use Rattle.arm_views.specs.declared.SpringAnswer.{SpringAnswer}
 use Rattle.arm_views.specs.declared.AxesAnswer.{AxesAnswer}
@@ -46,12 +46,12 @@ axes-some n (suc k) x p h = rw p
 
 -- ---- counts
 
-pub count-none : (n k c m : ℕ) → n ≡ k → n ≡ 0 → c ≡ m → _≡_ {A = Count} (record { refusal = 0; count = c }) (counted k m)
-unfolding counted
+pub count-none : (n k c m : ℕ) → n ≡ k → n ≡ 0 → c ≡ m → _≡_ {A = Counted} (record { refusal = 0; count = c }) (countedOf k m)
+unfolding countedOf
 count-none n zero c m p h e = rw e
 count-none n (suc k) c m p h e = absurd (omega arith)
 
-pub count-some : (n k m : ℕ) → n ≡ k → (n ≡ 0 → ⊥) → _≡_ {A = Count} (record { refusal = n; count = 0 }) (counted k m)
-unfolding counted
+pub count-some : (n k m : ℕ) → n ≡ k → (n ≡ 0 → ⊥) → _≡_ {A = Counted} (record { refusal = n; count = 0 }) (countedOf k m)
+unfolding countedOf
 count-some n zero m p h = absurd (h p)
 count-some n (suc k) m p h = rw p

@@ -8,10 +8,11 @@ use native.Mathlib.Omega.{arith}
 use borrow.Author.Tests.{le-leb, ltb-true, lt-ltb}
 use lib.Dec.{leb}
 use lib.ListN.{length}
+use Rattle.refusal.specs.Counted.{filled, out}
 use Rattle.limits.specs.Limits.{linkLimit}
 use Rattle.refusal.specs.Refusal.{unlessOf, lowerOf}
 use Rattle.topology.specs.Parents.{parentsFit, branch}
-use Rattle.topology.specs.Answers.{given, refusalOf, branchAnswer, out}
+use Rattle.topology.specs.Answers.{refusalOf, branchAnswer}
 use Rattle.arm.specs.declared.Arm.{Arm}
 use Rattle.arm.specs.Arm.{isLink, parentsOf}
 use Rattle.arm.specs.HandedIn.{parentsEarlier, armEntries}
@@ -35,11 +36,11 @@ arm-needed a link n ps e p = e ∙ ap (λ (l : List ℕ). length (branch l link)
 
 pub branch-refused : (n : ℕ) (a : Arm) (link : ℕ) (m : List ℕ) → n ≡ branchRefusal a link (length m) → (n ≡ 0 → ⊥)
     → out (record { refusal = n; count = 0 }) m ≡ armBranch a link m
-unfolding armBranch given
+unfolding armBranch filled
 branch-refused n a link m p h = some n (branchRefusal a link (length m)) p h
   where
     some : (n k : ℕ) → n ≡ k → (n ≡ 0 → ⊥)
-        → out (record { refusal = n; count = 0 }) m ≡ given k (length (branch (parentsOf a) link)) (branch (parentsOf a) link) m
+        → out (record { refusal = n; count = 0 }) m ≡ filled k (length (branch (parentsOf a) link)) (branch (parentsOf a) link) m
     some n zero p h = absurd (h p)
     some n (suc k) p h = rw p
 
@@ -60,4 +61,4 @@ branch-accepted n a link ps m w p z q =
     let few : length (parentsOf a) ≤ linkLimit = omega (arith, parents-live a w) in
     let enough = first-holds (leb (length b) (length m)) 0 (own ∷ armEntries a) e in
     rw q
-    (ap (λ (k : ℕ). given k (length b) b m) (bare-accepted (parentsOf a) link (leb (length b) (length m)) enough few l fit ∙ sym e))
+    (ap (λ (k : ℕ). filled k (length b) b m) (bare-accepted (parentsOf a) link (leb (length b) (length m)) enough few l fit ∙ sym e))

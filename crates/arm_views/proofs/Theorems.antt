@@ -7,6 +7,7 @@ use native.Mathlib.Omega.{arith}
 use lib.ListN.{length, take, drop, getD, length-take, length-drop}
 use lib.Seq.{getD-take, getD-drop}
 use lib.Ieee.{Float, nan}
+use Rattle.arm.specs.Sized.{Sized}
 use Rattle.refusal.specs.Refusal.{Lowest}
 use Rattle.refusal.proofs.Laws.{is-lowest}
 use Rattle.masks.specs.Masks.{dofsBelow, dofsOf}
@@ -14,7 +15,7 @@ use Rattle.masks.proofs.Laws.{below-free}
 use Rattle.arm.specs.declared.Arm.{Arm}
 use Rattle.arm.specs.Arm.{maskAt, startAt}
 use Rattle.arm.specs.Edits.{dofAt}
-use Rattle.arm.specs.Agree.{Agree, Sized}
+use Rattle.arm.specs.Agree.{Agree}
 use Rattle.arm.proofs.Agree.{same-parents, same-mask-at, same-start, same-dofs, same-entries, same-arm-refusal}
 use Rattle.arm_views.specs.declared.Role.{Role}
 use Rattle.arm_views.specs.declared.Role.the-variants.{Velocities, Accelerations}

@@ -8,9 +8,9 @@ use borrow.Author.Tests.{leb-true, ltb-true}
 use lib.Dec.{leb}
 use lib.ListN.{length, take, drop}
 use lib.Ieee.{Float}
+use Rattle.lists.proofs.Bools.{both-hold}
 use Rattle.limits.specs.Limits.{linkLimit, dofLimit}
 use Rattle.refusal.specs.Refusal.{unlessOf}
-use Rattle.refusal.proofs.Tests.{both-hold}
 use Rattle.masks.specs.Masks.{dofsOf}
 use Rattle.arm.specs.declared.Arm.{Arm}
 use Rattle.arm.specs.Arm.{isLink, maskAt, startAt, dofCountOf}

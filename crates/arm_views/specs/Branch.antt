@@ -3,9 +3,9 @@ use Prim.Native.Nat.{ℕ}
 use mathlib.Core.List.{List, _∷_}
 use lib.Dec.{leb}
 use lib.ListN.{length}
+use Rattle.refusal.specs.Counted.{Outcome, filled}
 use Rattle.refusal.specs.Refusal.{unlessOf, lowest}
 use Rattle.topology.specs.Parents.{branch}
-use Rattle.topology.specs.Answers.{Outcome, given}
 use Rattle.arm.specs.declared.Arm.{Arm}
 use Rattle.arm.specs.Arm.{isLink, parentsOf}
 use Rattle.arm.specs.HandedIn.{armEntries}
@@ -24,4 +24,4 @@ branchRefusal a link room = lowest (branchEntries a link room)
 unfoldable pub armBranch : Arm → ℕ → List ℕ → Outcome
 armBranch a link m =
     let b = branch (parentsOf a) link in
-    given (branchRefusal a link (length m)) (length b) b m
+    filled (branchRefusal a link (length m)) (length b) b m

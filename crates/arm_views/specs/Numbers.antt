@@ -1,9 +1,9 @@
 -- The start of a link, and the DoF count of an arm.
 use Prim.Native.Nat.{ℕ}
 use mathlib.Core.List.{List, _∷_}
+use Rattle.refusal.specs.Counted.{countedOf}
+use Rattle.refusal.specs.declared.Counted.{Counted}
 use Rattle.refusal.specs.Refusal.{unlessOf, lowest}
-use Rattle.masks.specs.declared.Count.{Count}
-use Rattle.masks.specs.Answers.{counted}
 use Rattle.arm.specs.declared.Arm.{Arm}
 use Rattle.arm.specs.Arm.{isLink, startAt, dofCountOf}
 use Rattle.arm.specs.HandedIn.{armEntries, armRefusal}
@@ -14,8 +14,8 @@ startEntries a link = unlessOf (isLink a link) 4 ∷ armEntries a
 unfoldable pub startRefusal : Arm → ℕ → ℕ
 startRefusal a link = lowest (startEntries a link)
 
-unfoldable pub startAnswer : Arm → ℕ → Count
-startAnswer a link = counted (startRefusal a link) (startAt a link)
+unfoldable pub startAnswer : Arm → ℕ → Counted
+startAnswer a link = countedOf (startRefusal a link) (startAt a link)
 
-unfoldable pub dofsAnswer : Arm → Count
-dofsAnswer a = counted (armRefusal a) (dofCountOf a)
+unfoldable pub dofsAnswer : Arm → Counted
+dofsAnswer a = countedOf (armRefusal a) (dofCountOf a)

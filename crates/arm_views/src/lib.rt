@@ -2,10 +2,10 @@
 // point: links and axes are any numbers, the arm handed in is tested, and the lowest refusal of all is given.
 ghost use mathlib.Core.Path.{_≡_};
 ghost use lib.ListN.{take};
+ghost use Rattle.refusal.specs.Counted.{out};
 ghost use Rattle.floats.specs.Floats.{allFinite};
 ghost use Rattle.arm_views.specs.Numbers.{startRefusal, startAnswer, dofsAnswer};
 ghost use Rattle.arm_views.specs.Links.{springRefusal, springAnswer, mulRefusal, mulAnswer};
-ghost use Rattle.topology.specs.Answers.{out};
 ghost use Rattle.arm_views.specs.Branch.{branchNeeded, branchRefusal, armBranch};
 ghost use Rattle.arm_views.specs.View.{seen, viewRefusal, viewAnswer};
 use arm::Arm;

@@ -8,7 +8,7 @@ use native.Mathlib.Omega.{arith}
 use lib.ListN.{length, take, set, replicate}
 use lib.Seq.{take-suc-set}
 use lib.Ieee.{Float, binary32, ofBits}
-use Rattle.refusal.proofs.Tests.{both-hold}
+use Rattle.lists.proofs.Bools.{both-hold}
 use Rattle.floats.specs.Floats.{allFinite}
 use Rattle.elimination.specs.Elimination.{entry, pivotRow, isZero, column, Factors, factors, trouble, columns, factored}
 use Rattle.elimination.proofs.Sticky.{finite-column}

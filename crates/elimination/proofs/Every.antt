@@ -5,9 +5,10 @@ use mathlib.Core.List.{List, [], _∷_}
 use Prim.Native.Nat.{ℕ, _+_}
 use lib.ListN.{take, drop}
 use lib.Ieee.{Float, binary32, mul}
-use Rattle.refusal.proofs.Tests.{both-hold, both}
+use Rattle.lists.proofs.Every.{every-right}
+use Rattle.lists.proofs.Bools.{both-hold, both}
 use Rattle.floats.specs.Floats.{isFinite, allFinite, zipTo}
-use Rattle.floats.proofs.Sticky.{finite-taken, finite-right}
+use Rattle.floats.proofs.Sticky.{finite-taken}
 use Rattle.elimination.specs.Elimination.{factorOf, less, reducedRow}
 
 -- f times each entry of s that stands beside one of d
@@ -27,5 +28,5 @@ pub every-value : (k : ℕ) (pivot r : List Float) → allFinite (reducedRow k p
 unfolding reducedRow
 every-value k pivot r h =
     let f = factorOf k pivot r in
-    let t = finite-right (take k r) _ h in
+    let t = every-right isFinite (take k r) _ h in
     (both-hold (isFinite f) _ t .0, products-finite f (drop (k + 1) r) (drop (k + 1) pivot) (both-hold (isFinite f) _ t .1))

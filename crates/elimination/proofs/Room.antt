@@ -9,9 +9,9 @@ use lib.Dec.{leb, eqb}
 use lib.ListN.{length, take, drop}
 use lib.Seq.{length-take-le}
 use lib.Ieee.{Float}
+use Rattle.lists.proofs.Bools.{both-hold, both}
 use Rattle.limits.specs.Limits.{dofLimit}
 use Rattle.refusal.specs.Refusal.{lowest, lowerOf, unlessOf}
-use Rattle.refusal.proofs.Tests.{both-hold, both}
 use Rattle.elimination.specs.Elimination.{Factors, factors, factored, roomRefusal, overFront, factoredIn}
 
 -- for n above 0, n · n fits where n does into a share of n

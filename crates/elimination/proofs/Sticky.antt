@@ -10,9 +10,10 @@ use native.Mathlib.Omega.{arith}
 use lib.ListN.{length, take, drop, getD}
 use lib.Seq.{drop-drop, take-take, take-append-le, drop-append-le, length-take-le}
 use lib.Ieee.{Float, nan, binary32, mul}
-use Rattle.refusal.proofs.Tests.{both-hold, both}
+use Rattle.lists.proofs.Every.{every-cut, every-left, every-right}
+use Rattle.lists.proofs.Bools.{both-hold, both}
 use Rattle.floats.specs.Floats.{isFinite, allFinite}
-use Rattle.floats.proofs.Sticky.{finite-sub, finite-div, finite-left, finite-right, finite-cut, finite-zip}
+use Rattle.floats.proofs.Sticky.{finite-sub, finite-div, finite-zip}
 use Rattle.elimination.specs.Elimination.{row, withRow, swapped, factorOf, less, reducedRow, reduced, column}
 use Rattle.elimination.proofs.Rows.{apart, inside, swapped-same}
 
@@ -28,18 +29,18 @@ finite-row : (k : ℕ) (pivot r : List Float) → allFinite (reducedRow k pivot 
 unfolding reducedRow
 finite-row k pivot r h =
     let f = factorOf k pivot r in
-    let t = finite-right (take k r) _ h in
+    let t = every-right isFinite (take k r) _ h in
     let z = finite-zip (less f) (λ x y. finite-sub x (mul binary32 f y)) (drop (k + 1) r) (drop (k + 1) pivot) (both-hold (isFinite f) _ t .1) in
-    around k r (finite-left (take k r) _ h) (finite-div (getD r k nan) (getD pivot k nan) (both-hold (isFinite f) _ t .0)) (rw add-one at z)
+    around k r (every-left isFinite (take k r) _ h) (finite-div (getD r k nan) (getD pivot k nan) (both-hold (isFinite f) _ t .0)) (rw add-one at z)
 
 -- ---- rows
 
 finite-with : (n i : ℕ) (r a : List Float) → (allFinite r ≡ true → allFinite (row n i a) ≡ true) → allFinite (withRow n i r a) ≡ true → allFinite a ≡ true
 unfolding withRow
 finite-with n i r a g h =
-    let t = finite-right (take (i * n) a) _ h in
-    let d : allFinite (drop n (drop (i * n) a)) ≡ true = rw drop-drop (finite-right r _ t) in
-    finite-cut (i * n) a (finite-left (take (i * n) a) _ h) (finite-cut n (drop (i * n) a) (g (finite-left r _ t)) d)
+    let t = every-right isFinite (take (i * n) a) _ h in
+    let d : allFinite (drop n (drop (i * n) a)) ≡ true = rw drop-drop (every-right isFinite r _ t) in
+    every-cut isFinite (i * n) a (every-left isFinite (take (i * n) a) _ h) (every-cut isFinite n (drop (i * n) a) (g (every-left isFinite r _ t)) d)
 
 finite-reduced : (n k : ℕ) (pivot : List Float) (c i : ℕ) (a : List Float) → allFinite (reduced n k pivot c i a) ≡ true → allFinite a ≡ true
 unfolding reduced
@@ -65,19 +66,19 @@ finite-swapped n k p a h l e =
     let u = take P a ++ (rk ++ drop (P + n) a) in
     let g : K + n ≤ P = apart k p n h in
     let lt : length (take P a) ≡ P = length-take-le P a (omega arith) in
-    let t = finite-right (take K u) _ e in
-    let fp : allFinite rp ≡ true = finite-left rp _ t in
+    let t = every-right isFinite (take K u) _ e in
+    let fp : allFinite rp ≡ true = every-left isFinite rp _ t in
     let lk : K ≤ length (take P a) = omega arith in
     let lkn : K + n ≤ length (take P a) = omega arith in
     let du : drop (K + n) u ≡ drop (K + n) (take P a) ++ (rk ++ drop (P + n) a) = drop-append-le (K + n) (take P a) (rk ++ drop (P + n) a) lkn in
-    let w : allFinite (drop (K + n) (take P a) ++ (rk ++ drop (P + n) a)) ≡ true = rw du at (finite-right rp _ t) in
-    let v = finite-right (drop (K + n) (take P a)) _ w in
+    let w : allFinite (drop (K + n) (take P a) ++ (rk ++ drop (P + n) a)) ≡ true = rw du at (every-right isFinite rp _ t) in
+    let v = every-right isFinite (drop (K + n) (take P a)) _ w in
     let tu : take K u ≡ take K (take P a) = take-append-le K (take P a) (rk ++ drop (P + n) a) lk in
-    let f0 : allFinite (take K (take P a)) ≡ true = rw tu at (finite-left (take K u) _ e) in
-    let f1 : allFinite (take n (drop K (take P a))) ≡ true = rw (part-take n K P a g) (finite-left rk _ v) in
-    let f2 : allFinite (drop n (drop K (take P a))) ≡ true = rw (drop-drop n K (take P a)) (finite-left (drop (K + n) (take P a)) _ w) in
-    let f4 : allFinite (drop n (drop P a)) ≡ true = rw (drop-drop n P a) (finite-right rk _ v) in
-    finite-cut P a (finite-cut K (take P a) f0 (finite-cut n (drop K (take P a)) f1 f2)) (finite-cut n (drop P a) fp f4)
+    let f0 : allFinite (take K (take P a)) ≡ true = rw tu at (every-left isFinite (take K u) _ e) in
+    let f1 : allFinite (take n (drop K (take P a))) ≡ true = rw (part-take n K P a g) (every-left isFinite rk _ v) in
+    let f2 : allFinite (drop n (drop K (take P a))) ≡ true = rw (drop-drop n K (take P a)) (every-left isFinite (drop (K + n) (take P a)) _ w) in
+    let f4 : allFinite (drop n (drop P a)) ≡ true = rw (drop-drop n P a) (every-right isFinite rk _ v) in
+    every-cut isFinite P a (every-cut isFinite K (take P a) f0 (every-cut isFinite n (drop K (take P a)) f1 f2)) (every-cut isFinite n (drop P a) fp f4)
 
 pub finite-column : (n k p : ℕ) (a : List Float) → k ≤ p → p < n → length a ≡ n * n → allFinite (column n k p a) ≡ true → allFinite a ≡ true
 finite-column n k p a h g l e =

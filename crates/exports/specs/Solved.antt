@@ -2,7 +2,7 @@
 use Prim.Native.Nat.{ℕ, zero, suc}
 use mathlib.Core.List.{List}
 use lib.Ieee.{Float}
-use Rattle.topology.specs.declared.Counted.{Counted}
+use Rattle.refusal.specs.declared.Counted.{Counted}
 use Rattle.solve.specs.Solve.{Answer}
 
 -- an answer, with what the lent memory then holds

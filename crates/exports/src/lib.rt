@@ -1,22 +1,23 @@
 // The entry points that give an arm, the rotation and the solve, as C functions for Rust. Each is its entry point and nothing more: the contract cites
 // the same definition; the solve's refusal has a count beside it. An arm goes in and comes out by value; what an enum names is a function for each case.
 ghost use mathlib.Core.Path.{_≡_};
+ghost use Rattle.refusal.specs.Counted.{countedOf};
 ghost use Rattle.planar.specs.Rotation.{rotated};
 ghost use Rattle.solve.specs.Solve.{solveOf};
 ghost use Rattle.topology.specs.declared.Split.the-variants.{Delete, Cut};
 ghost use Rattle.arm_edits.specs.Rows.{rowWritten};
 ghost use Rattle.arm_edits.specs.Springs.{armSpringSet};
 ghost use Rattle.arm_edits.specs.Couplings.{couplingAdded};
-ghost use Rattle.working.specs.Outcome.{out};
-ghost use Rattle.working.specs.Empty.{emptied};
-ghost use Rattle.working.specs.Full.{fullWorking};
+ghost use Rattle.full_working.specs.Outcome.{out};
+ghost use Rattle.full_working.specs.Empty.{emptied};
+ghost use Rattle.full_working.specs.Full.{fullWorking};
 ghost use Rattle.addition.specs.Addition.{linkAdded};
 ghost use Rattle.one_link_move.specs.declared.Change.the-variants.{Coordinate, Frames, Centre};
 ghost use Rattle.one_link_move.specs.Move.{linkMoved};
 ghost use Rattle.whole_step.specs.Step.{wholeStep};
 ghost use Rattle.root_change.specs.Root.{changedRoot};
-ghost use Rattle.parts.specs.Answers.{armPart};
-ghost use Rattle.exports.specs.Solved.{counted, solved, solvedBy};
+ghost use Rattle.arm_split.specs.Answers.{armPart};
+ghost use Rattle.exports.specs.Solved.{solved, solvedBy};
 use addition::NewLink;
 use arm::Arm;
 use arm::Edited;
@@ -26,7 +27,7 @@ use arm_edits::write_row;
 use multibody_joint::Spring;
 use one_link_move::Change;
 use one_link_move::move_link;
-use parts::part;
+use arm_split::part;
 use planar::Point;
 use planar::Pose;
 use planar::Rotated;
@@ -46,7 +47,7 @@ pub extern "C" fn giellavor_rotate(angle: f32) -> Rotated
 
 // The count, unless there is a refusal.
 fn answer(refusal: u8, count: usize) -> Counted
-    ensures { λ r. ⌜ r ≡ counted refusal count ⌝ }
+    ensures { λ r. ⌜ r ≡ countedOf refusal count ⌝ }
 {
     if refusal == 0 {
         return Counted { refusal, count };
@@ -75,7 +76,7 @@ pub extern "C" fn giellavor_solve(
 pub extern "C" fn giellavor_empty(tables: &mut [f32]) -> Edited
     ensures { λ e. ⌜ out e (now (tables .exit)) ≡ emptied (now (tables .entry)) ⌝ }
 {
-    working::empty(tables)
+    full_working::empty(tables)
 }
 
 // A link is added behind the last. Refused: 1 to 5, 7 to 9, 12.
@@ -191,7 +192,7 @@ pub extern "C" fn giellavor_move_centre(
 pub extern "C" fn giellavor_full_working(arm: Arm, tables: &mut [f32]) -> Edited
     ensures { λ e. ⌜ out e (now (tables .exit)) ≡ fullWorking arm (now (tables .entry)) ⌝ }
 {
-    working::full_working(arm, tables)
+    full_working::full_working(arm, tables)
 }
 
 // Every joint is integrated by dt, then every link is worked out. Refused: 1 to 5, 7, 9, 12.

@@ -1,13 +1,14 @@
 // The entry points that read an arm, a mask or a bare list, as C functions for Rust. Each is its entry point and nothing more: the contract cites the
 // same definition. An arm goes in by value; a part of a lent row comes back as offset and length.
 ghost use mathlib.Core.Path.{_≡_};
+ghost use Rattle.refusal.specs.Counted.{out};
 ghost use Rattle.topology.specs.declared.Split.the-variants.{Delete, Cut};
-ghost use Rattle.topology.specs.Answers.{out, branchAnswer};
+ghost use Rattle.topology.specs.Answers.{branchAnswer};
 ghost use Rattle.masks.specs.Answers.{freeAnswer, belowAnswer};
 ghost use Rattle.arm_views.specs.Numbers.{startAnswer, dofsAnswer};
 ghost use Rattle.arm_views.specs.Links.{springAnswer, mulAnswer};
 ghost use Rattle.arm_views.specs.Branch.{armBranch};
-ghost use Rattle.parts.specs.Answers.{armSplit};
+ghost use Rattle.arm_split.specs.Answers.{armSplit};
 ghost use Rattle.unit_multibody_joint.specs.Outcome.{out as leaves};
 ghost use Rattle.unit_multibody_joint.specs.Answers.{limitAnswer, frictionAnswer};
 ghost use Rattle.fill_jacobians.specs.Fill.{fillAnswer};
@@ -21,7 +22,7 @@ use arm_views::row_view;
 use fill_jacobians::Force;
 use fill_jacobians::Sums;
 use masks::Count;
-use parts::split;
+use arm_split::split;
 use topology::Counted;
 use topology::Split;
 use unit_multibody_joint::ConstraintRow;

@@ -9,10 +9,12 @@ use borrow.Author.Tests.{leb-true, ltb-true}
 use lib.Dec.{leb, ltb}
 use lib.ListN.{length, take, drop}
 use lib.Ieee.{Float}
+use Rattle.lists.proofs.Parts.{room}
+use Rattle.lists.proofs.Bools.{both-hold}
 use Rattle.limits.specs.Limits.{linkLimit, dofLimit, blockSize, tableSize}
 use Rattle.refusal.specs.Refusal.{unlessOf, In}
 use Rattle.refusal.proofs.Laws.{is-lowest}
-use Rattle.refusal.proofs.Tests.{both-hold, holds}
+use Rattle.refusal.proofs.Tests.{holds}
 use Rattle.floats.specs.Floats.{allFinite}
 use Rattle.elimination.proofs.Rows.{part-length}
 use Rattle.arm.specs.declared.Arm.{Arm}
@@ -20,7 +22,6 @@ use Rattle.arm.specs.Arm.{dofCountOf}
 use Rattle.arm.specs.HandedIn.{countsFit, armEntries}
 use Rattle.arm.proofs.Live.{dof-count-le}
 use Rattle.kinematics.specs.Blocks.{blockAt}
-use Rattle.kinematics.proofs.Blocks.{room}
 use Rattle.unit_multibody_joint.specs.Refusals.{memoryFits, massFinite}
 use Rattle.unit_multibody_joint.proofs.Accepted.{Fits, fits}
 use Rattle.fill_jacobians.specs.declared.Force.{Force}

@@ -4,9 +4,9 @@ use Prim.Native.Nat.{ℕ}
 use mathlib.Core.Path.{_≡_, refl}
 use mathlib.Core.List.{List}
 use lib.Ieee.{Float, ofBits}
+use Rattle.lists.specs.Lists.{laid}
 use Rattle.refusal.specs.Refusal.{Lowest}
 use Rattle.refusal.proofs.Laws.{is-lowest}
-use Rattle.masks.specs.Answers.{laid}
 use Rattle.elimination.specs.Elimination.{columns}
 use Rattle.solve.specs.Solve.{permuted, forward, backward, substituted, solution}
 use Rattle.arm.specs.declared.Arm.{Arm}
@@ -29,5 +29,5 @@ fill-same a b g link f tables mass j wj = rw (same-row a b g Velocities, same-en
 
 -- with n = 0 nothing is written, and both sums are +0
 pub fill-nothing : (f : Force) (block velocities mass j wj : List Float) → fillBy 0 0 f block velocities mass j wj ≡ out (refusedSums 0) j wj
-unfolding fillBy orThen answered laid forceRow dot sumsOf refusedSums finiteSums ofBits solution substituted columns permuted forward backward
+unfolding fillBy orThen answered forceRow dot sumsOf refusedSums finiteSums ofBits solution substituted columns permuted forward backward
 fill-nothing f block velocities mass j wj = refl

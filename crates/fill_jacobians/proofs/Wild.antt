@@ -11,10 +11,10 @@ use lib.Dec.{ltb, eqb}
 use lib.ListN.{length, take, getD, set, replicate, length-set, length-replicate, List·getD-eq-default}
 use lib.Seq.{getD-set-same, getD-set-other}
 use lib.Ieee.{Float, nan}
+use Rattle.lists.proofs.Every.{every-before-set}
+use Rattle.lists.proofs.Bools.{both-hold, both}
 use Rattle.limits.specs.Limits.{dofLimit}
-use Rattle.refusal.proofs.Tests.{both-hold, both}
 use Rattle.floats.specs.Floats.{zero32, isFinite, allFinite}
-use Rattle.floats.proofs.Sticky.{finite-set}
 use Rattle.floats.proofs.FiniteRows.{zeros-finite}
 use Rattle.elimination.specs.Elimination.{row, factored}
 use Rattle.solve.specs.Solve.{exchanged, permuted, lessProducts, forward, backward, Answer, answer, substituted, solution, solveOf}
@@ -100,7 +100,7 @@ unfolding forward
 finite-forward n a zero i x h = h
 finite-forward n a (suc c) i x h =
     let v = lessProducts (getD x i nan) (take i (row n i a)) (take i x) in
-    finite-set i x v (λ f. finite-start (getD x i nan) (take i (row n i a)) (take i x) f) (finite-forward n a c (suc i) (set x i v) h)
+    every-before-set isFinite nan i x v (λ f. finite-start (getD x i nan) (take i (row n i a)) (take i x) f) (finite-forward n a c (suc i) (set x i v) h)
 
 wild : (n : ℕ) (a : List Float) (s : List ℕ) (b : List Float) → allFinite b ≡ false → substituted n a s b ≡ answer 12 []
 unfolding substituted

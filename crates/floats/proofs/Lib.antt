@@ -1,5 +1,6 @@
-pub mod Rows
 pub mod FiniteRows
+pub mod Parts
+pub mod Rows
 pub mod Sticky
+pub mod Sums
 pub mod Zeros
-pub mod Tests

@@ -1,12 +1,13 @@
 -- A loop that works a row in place, over any length and any function: the first entries are done, the rest is as it was. Assumes nothing.
-use mathlib.Core.Path.{_≡_, refl, ap}
+use mathlib.Core.Path.{_≡_, refl, ap, _∙_}
 use mathlib.Core.List.{List, [], _∷_, _++_}
-use Prim.Native.Nat.{ℕ, zero, suc, min, _+_, _<_}
+use Prim.Native.Nat.{ℕ, zero, suc, min, _+_, _≤_, _<_}
 use native.Mathlib.Numerals.{add-one}
 use native.Mathlib.Omega.{arith}
 use lib.ListN.{length, take, drop, getD, set}
+use lib.Seq.{take-all}
 use lib.Ieee.{Float}
-use Rattle.floats.specs.Floats.{zipTo, second}
+use Rattle.floats.specs.Floats.{zipTo, second, overlaid}
 
 -- the first i entries are done
 abbrev pub zipped : (Float → Float → Float) → ℕ → List Float → List Float → List Float
@@ -53,15 +54,13 @@ overlaid-whole [] (y ∷ ys) e = absurd (omega arith)
 overlaid-whole (x ∷ xs) [] e = absurd (omega arith)
 overlaid-whole (x ∷ xs) (y ∷ ys) e = ap (λ (l : List Float). y ∷ l) (overlaid-whole xs ys (omega arith))
 
--- within a list no default is read
-pub any-default : {A : Type 0} (xs : List A) (i : ℕ) (d e : A) → i < length xs → getD xs i d ≡ getD xs i e
-any-default [] i d e h = absurd (omega arith)
-any-default (x ∷ xs) zero d e h = refl
-any-default (x ∷ xs) (suc i) d e h = any-default xs i d e (omega arith)
-
 -- laid over: the front of s, as far as d goes, then the rest of d
 pub overlaid-parts : (d s : List Float) → zipTo second d s ≡ take (length d) s ++ drop (length s) d
 overlaid-parts [] [] = refl
 overlaid-parts [] (y ∷ ys) = refl
 overlaid-parts (x ∷ xs) [] = refl
 overlaid-parts (x ∷ xs) (y ∷ ys) = ap (λ (l : List Float). y ∷ l) (overlaid-parts xs ys)
+
+-- over the front of a list that is no shorter
+pub overlaid-front : (n : ℕ) (s p : List Float) → length p ≡ n → n ≤ length s → overlaid s p ≡ p ++ drop n s
+overlaid-front n s p e h = overlaid-parts s p ∙ rw (take-all (length s) p (omega arith), e)

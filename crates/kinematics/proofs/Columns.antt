@@ -13,8 +13,10 @@ use lib.IntN.{ℤ, pos, negsuc}
 use lib.ListN.{length, drop, getD, set, length-map, List·getD-map, List·getD-append, length-replicate, getD-replicate}
 use lib.Seq.{getD-append-add, getD-take, getD-drop, getD-set-other}
 use lib.Ieee.{Float, nan, inf, fin, binary32, add, mul, neg, round, units, odd, sum, size, span, climb, up, down, unlike}
+use Rattle.arm.specs.Arm.{noLink, linkAt, lockedOf}
+use Rattle.lists.proofs.Numbers.{all-at}
+use Rattle.lists.proofs.Bools.{both-hold}
 use Rattle.limits.specs.Limits.{dofLimit, blockSize}
-use Rattle.refusal.proofs.Tests.{both-hold}
 use Rattle.floats.specs.Floats.{zero32, isFinite, allFinite, zipTo}
 use Rattle.floats.proofs.Rows.{length-zipTo}
 use Rattle.floats.proofs.Zeros.{nought, zero-is, positive}
@@ -22,7 +24,6 @@ use Rattle.masks.specs.Masks.{isFree, dofsBelow, dofsOf}
 use Rattle.masks.specs.Starts.{startOf}
 use Rattle.masks.proofs.Laws.{below-free, dofs-le}
 use Rattle.masks.proofs.Totals.{start-room, start-le}
-use Rattle.topology.proofs.Tables.{all-at}
 use Rattle.planar.specs.declared.Point.{Point}
 use Rattle.planar.specs.declared.Rotation.{Rotation}
 use Rattle.planar.specs.Poses.{finitePoint, finitePose}
@@ -30,7 +31,7 @@ use Rattle.arm.specs.declared.Link.{Link}
 use Rattle.kinematics.specs.declared.Posed.{Posed}
 use Rattle.kinematics.specs.Blocks.{row, plusTimes, shifted, columnAdded, axisAdded, ownAdded, zeroBlock}
 use Rattle.kinematics.specs.Link.{Kept, Inputs, blockFrom, keptOf, rootKept, laterKept, finitePlace, finiteKept}
-use Rattle.kinematics.specs.State.{State, noLink, linkAt, parentOf, lockedOf, inputsOf, keptAt, every, resultOf, stateAfter, fineAfter}
+use Rattle.kinematics.specs.State.{State, inputsOf, keptAt, resultOf, stateAfter, fineAfter, parentAt, everyLink}
 use Rattle.kinematics.specs.Promises.{Fits, ZeroFrom, ZerosStay, ZerosPast}
 use Rattle.kinematics.proofs.Shift.{row-length}
 use Rattle.kinematics.proofs.Store.{shifted-size, own-size, at-shape}
@@ -178,14 +179,14 @@ root-zero x d room g ok = kept-zero _ x zeroBlock d (length-replicate blockSize 
 
 -- ---- the full pass
 
-module _ (ls : List Link) (n : ℕ) (t : List Float) (f : Fits ls n t) (ok : fineAfter ls n every t ≡ true) where
+module _ (ls : List Link) (n : ℕ) (t : List Float) (f : Fits ls n t) (ok : fineAfter ls n everyLink t ≡ true) where
   abbrev s : State
-  s = stateAfter ls n every t
+  s = stateAfter ls n everyLink t
 
   abbrev end : ℕ → ℕ
   end j = startOf (map lockedOf ls) j + dofsOf (linkAt ls j .joint .locked)
 
-  finite-at : (j : ℕ) → j < n → finiteKept (resultOf ls (stateAfter ls n every t) j) ≡ true
+  finite-at : (j : ℕ) → j < n → finiteKept (resultOf ls (stateAfter ls n everyLink t) j) ≡ true
   unfolding fineAfter
   finite-at j h = ap finiteKept (sym (all-fresh ls n t f j h)) ∙ all-at n _ ok j h
 
@@ -207,20 +208,20 @@ module _ (ls : List Link) (n : ℕ) (t : List Float) (f : Fits ls n t) (ok : fin
     unfolding inputsOf
     at-end = omega arith
 
-    result-zero : (parentOf ls j < j → ZeroFrom (end (parentOf ls j)) (keptAt (stateAfter ls n every t) (parentOf ls j) .block)) → ZeroFrom (end j) (resultOf ls (stateAfter ls n every t) j .block)
-    result-zero z = go (ltb (parentOf ls j) j) refl (finite-at j h)
+    result-zero : (parentAt ls j < j → ZeroFrom (end (parentAt ls j)) (keptAt (stateAfter ls n everyLink t) (parentAt ls j) .block)) → ZeroFrom (end j) (resultOf ls (stateAfter ls n everyLink t) j .block)
+    result-zero z = go (ltb (parentAt ls j) j) refl (finite-at j h)
       where
-        go : (m : Bool) → ltb (parentOf ls j) j ≡ m → finiteKept (cond m (laterKept (keptAt (stateAfter ls n every t) (parentOf ls j)) (inputsOf ls j)) (rootKept (inputsOf ls j))) ≡ true
-            → ZeroFrom (end j) (cond m (laterKept (keptAt (stateAfter ls n every t) (parentOf ls j)) (inputsOf ls j)) (rootKept (inputsOf ls j)) .block)
+        go : (m : Bool) → ltb (parentAt ls j) j ≡ m → finiteKept (cond m (laterKept (keptAt (stateAfter ls n everyLink t) (parentAt ls j)) (inputsOf ls j)) (rootKept (inputsOf ls j))) ≡ true
+            → ZeroFrom (end j) (cond m (laterKept (keptAt (stateAfter ls n everyLink t) (parentAt ls j)) (inputsOf ls j)) (rootKept (inputsOf ls j)) .block)
         go true e q =
-            let l = ltb-true (parentOf ls j) j e in
-            later-zero (keptAt (stateAfter ls n every t) (parentOf ls j)) (inputsOf ls j) (end j) (at-shape (stateAfter ls n every t) (parentOf ls j) (after-good ls n every t f) (omega (arith, f .few))) room at-end q
-            (λ c b g. z l c (omega (arith, ends (parentOf ls j) j l h)) g)
+            let l = ltb-true (parentAt ls j) j e in
+            later-zero (keptAt (stateAfter ls n everyLink t) (parentAt ls j)) (inputsOf ls j) (end j) (at-shape (stateAfter ls n everyLink t) (parentAt ls j) (after-good ls n everyLink t f) (omega (arith, f .few))) room at-end q
+            (λ c b g. z l c (omega (arith, ends (parentAt ls j) j l h)) g)
         go false e q = root-zero (inputsOf ls j) (end j) room at-end q
 
-  zero-to : (m j : ℕ) → j < m → j < n → ZeroFrom (end j) (keptAt (stateAfter ls n every t) j .block)
+  zero-to : (m j : ℕ) → j < m → j < n → ZeroFrom (end j) (keptAt (stateAfter ls n everyLink t) j .block)
   zero-to zero j l h = absurd (omega arith)
-  zero-to (suc m) j l h = subst (λ (k : Kept). ZeroFrom (end j) (k .block)) (sym (all-fresh ls n t f j h)) (result-zero j h (λ q. zero-to m (parentOf ls j) (omega arith) (omega arith)))
+  zero-to (suc m) j l h = subst (λ (k : Kept). ZeroFrom (end j) (k .block)) (sym (all-fresh ls n t f j h)) (result-zero j h (λ q. zero-to m (parentAt ls j) (omega arith) (omega arith)))
 
 pub zeros-past : ZerosPast
 unfolding keptAt

@@ -7,14 +7,14 @@ use native.Mathlib.Omega.{arith}
 use borrow.Author.Tests.{lt-leb, le-leb}
 use lib.ListN.{length, drop, replicate, length-replicate, getD-replicate, length-append}
 use lib.Ieee.{Float}
+use Rattle.floats.proofs.Rows.{overlaid-front}
 use Rattle.limits.specs.Limits.{linkLimit, blockSize, tableSize}
 use Rattle.floats.specs.Floats.{zero32, overlaid}
 use Rattle.arm.specs.declared.Link.{Link}
 use Rattle.kinematics.specs.declared.Refreshed.{Refreshed}
 use Rattle.kinematics.specs.Blocks.{blockAt}
-use Rattle.kinematics.specs.State.{State, marked, every, stateAfter, fineAfter, cleared, laid, blocksOf, newBlock, WorkedOut}
+use Rattle.kinematics.specs.State.{State, marked, stateAfter, fineAfter, cleared, blocksOf, newBlock, WorkedOut, everyLink, blocksLaid}
 use Rattle.kinematics.specs.Answers.{out, passed, refreshMarked, refreshAll}
-use Rattle.kinematics.proofs.Blocks.{copied-front}
 use Rattle.kinematics.proofs.Laid.{laid-same, laid-block, laid-length}
 use Rattle.kinematics.proofs.Turns.{tables-after, new-size}
 use Rattle.kinematics.proofs.Same.{worked-marks, every-links, every-fine, every-tables}
@@ -62,7 +62,7 @@ module _ (ls : List Link) (count : ℕ) (t : List Float) where
       marked-no h = passed-no _ _ ls t (sym (k .test) ∙ h) ∙ is-marked b n e long
 
       -- the blocks that are written back are those that the pass leaves
-      committed : laid b (blocksOf work) n t ≡ stateAfter ls n b t .tables
+      committed : blocksLaid b (blocksOf work) n t ≡ stateAfter ls n b t .tables
       committed =
           laid-same b (blocksOf work) (newBlock ls b t) t n (λ j h m.
           ap (blockAt j) (k .blocks)
@@ -70,34 +70,34 @@ module _ (ls : List Link) (count : ℕ) (t : List Float) where
           ∙ ap (λ (y : Bool). cond y (newBlock ls b t j) (blockAt j zeros)) m)
           ∙ sym (tables-after ls b t n)
 
-      pub marked-yes : r .fine ≡ true → (m : List Float) → m ≡ laid b (blocksOf work) n t → out r m ≡ refreshMarked ls count b t
+      pub marked-yes : r .fine ≡ true → (m : List Float) → m ≡ blocksLaid b (blocksOf work) n t → out r m ≡ refreshMarked ls count b t
       marked-yes h m q = passed-yes _ _ ls t (sym (k .test) ∙ h) r m h (k .refreshed) (q ∙ committed) ∙ is-marked b n e long
 
     -- ---- all links
 
     module _ (k : WorkedOut ls n (marked (replicate linkLimit true)) t zeros work (r .links) (r .fine)) where
-      k′ : WorkedOut ls n every t zeros work (r .links) (r .fine)
-      k′ = worked-marks ls (marked (replicate linkLimit true)) every t n (λ j h. getD-replicate linkLimit j true false (omega (arith, fit))) zeros work (r .links) (r .fine) k
+      k′ : WorkedOut ls n everyLink t zeros work (r .links) (r .fine)
+      k′ = worked-marks ls (marked (replicate linkLimit true)) everyLink t n (λ j h. getD-replicate linkLimit j true false (omega (arith, fit))) zeros work (r .links) (r .fine) k
 
-      is-all : passed (fineAfter ls n every (cleared t)) (stateAfter ls n every (cleared t)) ls t ≡ refreshAll ls count t
+      is-all : passed (fineAfter ls n everyLink (cleared t)) (stateAfter ls n everyLink (cleared t)) ls t ≡ refreshAll ls count t
       unfolding refreshAll
       is-all = rw (e, le-leb tableSize (length t) long)
 
       long′ : tableSize ≤ length (cleared t)
       long′ = omega (arith, length-append zeros (drop tableSize t), zeros-length)
 
-      test-all : r .fine ≡ fineAfter ls n every (cleared t)
+      test-all : r .fine ≡ fineAfter ls n everyLink (cleared t)
       test-all = k′ .test ∙ every-fine ls sized t (cleared t) long long′ n fit
 
       pub all-no : r .fine ≡ false → out (record { fine = false; links = ls }) t ≡ refreshAll ls count t
       all-no h = passed-no _ _ ls t (sym test-all ∙ h) ∙ is-all
 
       work-length : length work ≡ tableSize
-      work-length = ap length (k′ .blocks) ∙ laid-length every (newBlock ls every t) n (new-size ls every t n fit sized long) zeros (omega (arith, enough, zeros-length)) n (omega arith) ∙ zeros-length
+      work-length = ap length (k′ .blocks) ∙ laid-length everyLink (newBlock ls everyLink t) n (new-size ls everyLink t n fit sized long) zeros (omega (arith, enough, zeros-length)) n (omega arith) ∙ zeros-length
 
       pub all-yes : r .fine ≡ true → (m : List Float) → m ≡ overlaid t work → out r m ≡ refreshAll ls count t
       all-yes h m q =
           passed-yes _ _ ls t (sym test-all ∙ h) r m h
           (k′ .refreshed ∙ every-links ls sized t (cleared t) long long′ n fit)
-          (q ∙ copied-front tableSize t work work-length long ∙ ap (λ (y : List Float). y ++ drop tableSize t) (k′ .blocks) ∙ every-tables ls sized n fit t long)
+          (q ∙ overlaid-front tableSize t work work-length long ∙ ap (λ (y : List Float). y ++ drop tableSize t) (k′ .blocks) ∙ every-tables ls sized n fit t long)
           ∙ is-all

@@ -12,16 +12,17 @@ use lib.Dec.{leb, ltb}
 use lib.ListN.{length, set}
 use lib.Seq.{set-getD}
 use lib.Ieee.{Float}
+use Rattle.arm.specs.Arm.{noLink, linkAt, lockedOf}
+use Rattle.lists.proofs.Numbers.{all-below}
+use Rattle.lists.specs.Numbers.{allBelow}
+use Rattle.lists.proofs.Bools.{both-hold}
 use Rattle.limits.specs.Limits.{linkLimit, dofLimit, tableSize}
-use Rattle.refusal.proofs.Tests.{both-hold}
 use Rattle.masks.specs.Starts.{startOf}
-use Rattle.topology.specs.Tables.{allBelow}
-use Rattle.topology.proofs.Tables.{all-below}
 use Rattle.arm.specs.declared.Link.{Link}
 use Rattle.kinematics.specs.Blocks.{zeroBlock, blockAt, withBlock}
 use Rattle.kinematics.specs.Link.{Kept, Inputs, posedOf, rootPosed, keptOf, rootKept, laterKept, finiteKept, withKept, TurnedTo}
 use Rattle.kinematics.specs.Pass.{run}
-use Rattle.kinematics.specs.State.{State, state, noLink, linkAt, parentOf, lockedOf, inputsOf, keptIn, keptAt, only, putKept, resultOf, stateAfter}
+use Rattle.kinematics.specs.State.{State, state, inputsOf, keptIn, keptAt, only, putKept, resultOf, stateAfter, parentAt}
 use Rattle.kinematics.specs.Answers.{Outcome, out, passed, refreshMarked, TurnedOutcome, turnedOut, oneKept, oneFits, refreshOne}
 use Rattle.kinematics.proofs.Turns.{start-room, newOf, fineTo, fine-all, Turn, turned-kept}
 use Rattle.kinematics.proofs.Ends.{marked-short, is-marked}
@@ -142,7 +143,7 @@ module _ (ls : List Link) (sized : length ls ≡ linkLimit) (t : List Float) (co
   k = oneKept (linkAt ls j) above start j t
 
   kept : resultOf ls (state ls t) j ≡ k
-  unfolding oneKept inputsOf keptAt parentOf
+  unfolding oneKept inputsOf keptAt parentAt
   kept = elim (decLt p j) [
     | yes q ↦
         let e : linkAt ls p ≡ above = sym (ea q) in

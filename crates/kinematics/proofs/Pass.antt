@@ -8,10 +8,10 @@ use native.Mathlib.Omega.{arith}
 use native.Mathlib.Decide.{le-ind}
 use borrow.Author.Tests.{ltb-true}
 use lib.Dec.{ltb}
-use Rattle.topology.specs.Tables.{allBelow}
-use Rattle.topology.proofs.Tables.{all-same}
+use Rattle.lists.proofs.Bools.{not-then, pick}
+use Rattle.lists.proofs.Numbers.{all-same}
+use Rattle.lists.specs.Numbers.{allBelow}
 use Rattle.kinematics.specs.Pass.{Ops, Laws, Closed, newAt, run, FreshAt}
-use Rattle.kinematics.proofs.Small.{not-then, pick}
 
 module _ {In Out Store : Type 0} (O : Ops In Out Store) (par : ℕ → ℕ) (xs : ℕ → In) where
   -- ---- one result

@@ -1,4 +1,4 @@
--- The promises of the pass: states that keep the same of every link are equal, and the laws of any store say what is kept. Assumes nothing.
+-- The promises of the pass: states that keep the same of everyLink link are equal, and the laws of any store say what is kept. Assumes nothing.
 use mathlib.Core.Path.{_≡_, refl, sym, ap, ap₂, _∙_}
 use Prim.Native.Nat.{ℕ, zero, suc, _+_, _*_, _≤_, _<_}
 use mathlib.Core.Bool.{Bool, true, false, cond}
@@ -9,19 +9,20 @@ use native.Mathlib.Numerals.{add-one}
 use lib.ListN.{length, set, take, drop, replicate, length-replicate, length-append, take-append-drop}
 use lib.Seq.{ext-getD, drop-at, length-take-le}
 use lib.Ieee.{Float}
+use Rattle.lists.proofs.Parts.{blocks-same, block-front, replicated}
+use Rattle.arm.specs.Arm.{noLink, linkAt, lockedOf}
+use Rattle.lists.proofs.Numbers.{all-same}
 use Rattle.limits.specs.Limits.{linkLimit, blockSize, tableSize}
 use Rattle.floats.specs.Floats.{zero32}
 use Rattle.masks.specs.Masks.{dofsOf}
 use Rattle.masks.specs.Starts.{startOf, totalOf}
-use Rattle.topology.proofs.Tables.{all-same}
 use Rattle.arm.specs.declared.Link.{Link}
 use Rattle.kinematics.specs.Blocks.{blockAt, zeroBlock, withBlock}
 use Rattle.kinematics.specs.Link.{Kept, finiteKept, withPlace, withKept}
 use Rattle.kinematics.specs.Pass.{run}
-use Rattle.kinematics.specs.State.{State, state, noLink, linkAt, parentOf, lockedOf, inputsOf, keptAt, putKept, keptOps, every, resultOf, stateAfter, fineAfter, cleared, laid, newBlock}
+use Rattle.kinematics.specs.State.{State, state, inputsOf, keptAt, putKept, keptOps, resultOf, stateAfter, fineAfter, cleared, newBlock, parentAt, everyLink, blocksLaid}
 use Rattle.kinematics.specs.Promises.{Fits, Ready, LikeFull, AllFresh, Stays, Rising, UpTo}
 use Rattle.kinematics.proofs.Pass.{new-same, untouched, beyond, stays-good, pass-full, pass-tests}
-use Rattle.kinematics.proofs.Blocks.{blocks-same, block-front, replicated}
 use Rattle.kinematics.proofs.Laid.{laid-front, laid-length}
 use Rattle.kinematics.proofs.Store.{Good, laws, blank, after-blank}
 use Rattle.kinematics.proofs.Turns.{tables-after, new-size, start-more}
@@ -52,19 +53,19 @@ module _ (ls : List Link) (n : ℕ) (b : ℕ → Bool) (t : List Float) (f : Fit
 
   pub after-good : Good (stateAfter ls n b t)
   unfolding stateAfter laws
-  after-good = stays-good keptOps (parentOf ls) (inputsOf ls) linkLimit n (f .few) laws b (state ls t) (f .places, f .long)
+  after-good = stays-good keptOps (parentAt ls) (inputsOf ls) linkLimit n (f .few) laws b (state ls t) (f .places, f .long)
 
   after-beyond : (j : ℕ) → n ≤ j → keptAt (stateAfter ls n b t) j ≡ keptAt (state ls t) j
   unfolding stateAfter laws
-  after-beyond = beyond keptOps (parentOf ls) (inputsOf ls) linkLimit n (f .few) laws b (state ls t) (f .places, f .long)
+  after-beyond = beyond keptOps (parentAt ls) (inputsOf ls) linkLimit n (f .few) laws b (state ls t) (f .places, f .long)
 
   after-unmarked : (j : ℕ) → j < n → b j ≡ false → keptAt (stateAfter ls n b t) j ≡ keptAt (state ls t) j
   unfolding stateAfter laws
-  after-unmarked = untouched keptOps (parentOf ls) (inputsOf ls) linkLimit n (f .few) laws b (state ls t) (f .places, f .long)
+  after-unmarked = untouched keptOps (parentAt ls) (inputsOf ls) linkLimit n (f .few) laws b (state ls t) (f .places, f .long)
 
   -- its tables: as many blocks as there are links, and the memory behind them
   abbrev front : List Float
-  front = laid b (newBlock ls b t) n (take tableSize t)
+  front = blocksLaid b (newBlock ls b t) n (take tableSize t)
 
   enough : n * blockSize ≤ length (take tableSize t)
   enough = omega (arith, length-take-le tableSize t (f .long), f .few)
@@ -75,7 +76,7 @@ module _ (ls : List Link) (n : ℕ) (b : ℕ → Bool) (t : List Float) (f : Fit
   split : stateAfter ls n b t .tables ≡ front ++ drop tableSize t
   split =
       tables-after ls b t n
-      ∙ ap (laid b (newBlock ls b t) n) (sym (take-append-drop tableSize t))
+      ∙ ap (blocksLaid b (newBlock ls b t) n) (sym (take-append-drop tableSize t))
       ∙ laid-front b (newBlock ls b t) n (new-size ls b t n (f .few) (f .places) (f .long)) (take tableSize t) (drop tableSize t) enough n (omega arith)
 
   front-block : (j : ℕ) → j < linkLimit → blockAt j front ≡ blockAt j (stateAfter ls n b t .tables)
@@ -101,38 +102,38 @@ module _ (ls : List Link) (n : ℕ) (b : ℕ → Bool) (t : List Float) (f : Fit
   f′ : Fits ls n (cleared t)
   f′ = record { places = f .places; few = f .few; long = omega (arith, length-append (replicate tableSize zero32) (drop tableSize t), zeros-length) }
 
-  full-kept : (j : ℕ) → j < n → keptAt (stateAfter ls n b t) j ≡ keptAt (stateAfter ls n every (cleared t)) j
+  full-kept : (j : ℕ) → j < n → keptAt (stateAfter ls n b t) j ≡ keptAt (stateAfter ls n everyLink (cleared t)) j
   unfolding stateAfter laws
-  full-kept = pass-full keptOps (parentOf ls) (inputsOf ls) linkLimit n (f .few) laws b (r .closed) (state ls t) (f .places, f .long) (r .fresh) (state ls (cleared t)) (f′ .places, f′ .long)
+  full-kept = pass-full keptOps (parentAt ls) (inputsOf ls) linkLimit n (f .few) laws b (r .closed) (state ls t) (f .places, f .long) (r .fresh) (state ls (cleared t)) (f′ .places, f′ .long)
 
-  full-fine : fineAfter ls n b t ≡ fineAfter ls n every (cleared t)
+  full-fine : fineAfter ls n b t ≡ fineAfter ls n everyLink (cleared t)
   unfolding fineAfter stateAfter laws
-  full-fine = pass-tests keptOps (parentOf ls) (inputsOf ls) linkLimit n (f .few) laws b (r .closed) (state ls t) (f .places, f .long) (r .fresh) (state ls (cleared t)) (f′ .places, f′ .long) finiteKept (r .finite)
+  full-fine = pass-tests keptOps (parentAt ls) (inputsOf ls) linkLimit n (f .few) laws b (r .closed) (state ls t) (f .places, f .long) (r .fresh) (state ls (cleared t)) (f′ .places, f′ .long) finiteKept (r .finite)
 
   zero-block : (j : ℕ) → j < linkLimit → blockAt j (cleared t) ≡ zeroBlock
   zero-block j h = block-front blockSize linkLimit (replicate tableSize zero32) (drop tableSize t) zeros-length j h ∙ replicated blockSize linkLimit zero32 j h
 
-  same-all : (j : ℕ) → j < linkLimit → keptAt (stateAfter ls n b t) j ≡ keptAt (stateAfter ls n every (cleared t)) j
+  same-all : (j : ℕ) → j < linkLimit → keptAt (stateAfter ls n b t) j ≡ keptAt (stateAfter ls n everyLink (cleared t)) j
   same-all j h = elim (decLt j n) [
     | yes q ↦ full-kept j q
-    | no q ↦ after-beyond ls n b t f j (omega arith) ∙ same-kept ls t (cleared t) j (r .unused j (omega arith) h ∙ sym (zero-block j h)) ∙ sym (after-beyond ls n every (cleared t) f′ j (omega arith))
+    | no q ↦ after-beyond ls n b t f j (omega arith) ∙ same-kept ls t (cleared t) j (r .unused j (omega arith) h ∙ sym (zero-block j h)) ∙ sym (after-beyond ls n everyLink (cleared t) f′ j (omega arith))
   ]
 
-  same-links : stateAfter ls n b t .links ≡ stateAfter ls n every (cleared t) .links
+  same-links : stateAfter ls n b t .links ≡ stateAfter ls n everyLink (cleared t) .links
   same-links =
-      ext-getD noLink _ _ (after-good ls n b t f .0 ∙ sym (after-good ls n every (cleared t) f′ .0)) (λ j h.
-      link-back (stateAfter ls n b t) (stateAfter ls n every (cleared t)) j (after-blank ls n b t j ∙ sym (after-blank ls n every (cleared t) j)) (same-all j (omega (arith, after-good ls n b t f .0))))
+      ext-getD noLink _ _ (after-good ls n b t f .0 ∙ sym (after-good ls n everyLink (cleared t) f′ .0)) (λ j h.
+      link-back (stateAfter ls n b t) (stateAfter ls n everyLink (cleared t)) j (after-blank ls n b t j ∙ sym (after-blank ls n everyLink (cleared t) j)) (same-all j (omega (arith, after-good ls n b t f .0))))
 
-  same-tables : stateAfter ls n b t .tables ≡ stateAfter ls n every (cleared t) .tables
+  same-tables : stateAfter ls n b t .tables ≡ stateAfter ls n everyLink (cleared t) .tables
   same-tables =
       split ls n b t f
       ∙ ap₂ _++_
-      (blocks-same blockSize linkLimit _ _ (front-length ls n b t f) (front-length ls n every (cleared t) f′) (λ j h.
+      (blocks-same blockSize linkLimit _ _ (front-length ls n b t f) (front-length ls n everyLink (cleared t) f′) (λ j h.
       front-block ls n b t f j h
-      ∙ kept-block (stateAfter ls n b t) (stateAfter ls n every (cleared t)) j (same-all j h)
-      ∙ sym (front-block ls n every (cleared t) f′ j h)))
+      ∙ kept-block (stateAfter ls n b t) (stateAfter ls n everyLink (cleared t)) j (same-all j h)
+      ∙ sym (front-block ls n everyLink (cleared t) f′ j h)))
       (sym (drop-at (replicate tableSize zero32) (drop tableSize t) tableSize zeros-length))
-      ∙ sym (split ls n every (cleared t) f′)
+      ∙ sym (split ls n everyLink (cleared t) f′)
 
 pub like-full : LikeFull
 like-full ls n b t f r = (ap₂ state (same-links ls n b t f r) (same-tables ls n b t f r), full-fine ls n b t f r)
@@ -140,8 +141,8 @@ like-full ls n b t f r = (ap₂ state (same-links ls n b t f r) (same-tables ls 
 -- ---- links that agree up to n
 
 module _ (ls ls′ : List Link) (n : ℕ) (b : ℕ → Bool) (t : List Float) (f : Fits ls n t) (f′ : Fits ls′ n t) (rising : Rising ls n) (same : (j : ℕ) → j < n → linkAt ls j ≡ linkAt ls′ j) where
-  parents : (j : ℕ) → j < n → parentOf ls j ≡ parentOf ls′ j
-  unfolding parentOf
+  parents : (j : ℕ) → j < n → parentAt ls j ≡ parentAt ls′ j
+  unfolding parentAt
   parents j h = ap (λ (l : Link). l .parent) (same j h)
 
   starts : (j : ℕ) → j ≤ n → startOf (map lockedOf ls) j ≡ startOf (map lockedOf ls′) j
@@ -159,7 +160,7 @@ module _ (ls ls′ : List Link) (n : ℕ) (b : ℕ → Bool) (t : List Float) (f
   inputs j h =
       let p = same j h in
       let q = starts j (omega arith) in
-      let u = ap (λ (l : Link). l .centre) (same (parentOf ls j) (omega (arith, rising j h))) ∙ ap (λ (k : ℕ). linkAt ls′ k .centre) (parents j h) in
+      let u = ap (λ (l : Link). l .centre) (same (parentAt ls j) (omega (arith, rising j h))) ∙ ap (λ (k : ℕ). linkAt ls′ k .centre) (parents j h) in
       λ r. record { joint = p r .joint; centre = p r .centre; start = q r; above = u r }
 
   same-put : (l l′ : List Link) (k : ℕ) (x x′ : Link) → length l ≡ length l′ → x ≡ x′ → (j : ℕ) → linkAt l j ≡ linkAt l′ j → linkAt (set l k x) j ≡ linkAt (set l′ k x′) j
@@ -199,8 +200,8 @@ module _ (ls ls′ : List Link) (n : ℕ) (b : ℕ → Bool) (t : List Float) (f
           put-agree (stateAfter ls k b t) (stateAfter ls′ k b t) k _ _ h
           (after-good ls k b t (fits-at ls k (omega arith) f) .0 ∙ sym (after-good ls′ k b t (fits-at ls′ k (omega arith) f′) .0))
           a
-          (new-same keptOps (parentOf ls) (inputsOf ls) (parentOf ls′) (inputsOf ls′) (stateAfter ls k b t) (stateAfter ls′ k b t) k (parents k h) (inputs k h) (λ q.
-          kept-same (stateAfter ls k b t) (stateAfter ls′ k b t) (parentOf ls k) (a .0 (parentOf ls k) (omega arith)) (a .1)))
+          (new-same keptOps (parentAt ls) (inputsOf ls) (parentAt ls′) (inputsOf ls′) (stateAfter ls k b t) (stateAfter ls′ k b t) k (parents k h) (inputs k h) (λ q.
+          kept-same (stateAfter ls k b t) (stateAfter ls′ k b t) (parentAt ls k) (a .0 (parentAt ls k) (omega arith)) (a .1)))
       go false a = a
 
   agree-fine : fineAfter ls n b t ≡ fineAfter ls′ n b t

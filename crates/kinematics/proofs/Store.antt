@@ -8,6 +8,8 @@ use native.Mathlib.Omega.{arith}
 use lib.ListN.{length, set, length-set, length-append, length-replicate}
 use lib.Seq.{getD-set-same, getD-set-other}
 use lib.Ieee.{Float, neg}
+use Rattle.lists.proofs.Parts.{block-same, block-other, block-length, part-length}
+use Rattle.arm.specs.Arm.{noLink, linkAt}
 use Rattle.limits.specs.Limits.{linkLimit, blockSize, tableSize}
 use Rattle.floats.specs.Floats.{zero32, zipTo}
 use Rattle.floats.proofs.Rows.{length-zipTo}
@@ -19,8 +21,7 @@ use Rattle.kinematics.specs.Blocks.{row, plusTimes, shifted, columnAdded
 use Rattle.masks.specs.Masks.{isFree, dofsBelow}
 use Rattle.kinematics.specs.Link.{Kept, Inputs, blockFrom, keptOf, rootKept, laterKept, withPlace, withKept}
 use Rattle.kinematics.specs.Pass.{Laws}
-use Rattle.kinematics.specs.State.{State, state, noLink, linkAt, parentOf, inputsOf, keptAt, putKept, keptOps, stateAfter}
-use Rattle.kinematics.proofs.Blocks.{block-same, block-other, block-length, part-length}
+use Rattle.kinematics.specs.State.{State, state, inputsOf, keptAt, putKept, keptOps, stateAfter, parentAt}
 use Rattle.kinematics.proofs.Shift.{row-length}
 use Rattle.kinematics.proofs.Pass.{run-view}
 
@@ -123,4 +124,4 @@ put-blank s k o j = set-field blank (s .links) k (withKept (linkAt (s .links) k)
 
 pub after-blank : (ls : List Link) (n : ℕ) (b : ℕ → Bool) (t : List Float) (j : ℕ) → blank (linkAt (stateAfter ls n b t .links) j) ≡ blank (linkAt ls j)
 unfolding stateAfter
-after-blank ls n b t j = run-view keptOps (parentOf ls) (inputsOf ls) (λ s. blank (linkAt (s .links) j)) (state ls t) b (λ s k o e. put-blank s k o j) n
+after-blank ls n b t j = run-view keptOps (parentAt ls) (inputsOf ls) (λ s. blank (linkAt (s .links) j)) (state ls t) b (λ s k o e. put-blank s k o j) n

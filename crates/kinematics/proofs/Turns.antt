@@ -11,20 +11,22 @@ use borrow.Author.Tests.{lt-ltb, le-ltb}
 use lib.Dec.{ltb}
 use lib.ListN.{length, set, take, drop, length-replicate, length-set, length-map, List·getD-map}
 use lib.Ieee.{Float}
+use Rattle.lists.proofs.Parts.{part-length, block-same, block-length, lent-part, with-with}
+use Rattle.arm.specs.Arm.{noLink, linkAt, lockedOf}
+use Rattle.lists.specs.Lists.{part}
+use Rattle.lists.specs.Numbers.{allBelow}
 use Rattle.limits.specs.Limits.{linkLimit, dofLimit, blockSize, tableSize}
 use Rattle.floats.specs.Floats.{zero32, allFinite}
 use Rattle.masks.specs.Masks.{dofsOf}
 use Rattle.masks.specs.Starts.{startOf, totalOf}
 use Rattle.masks.proofs.Totals.{start-next, start-le}
-use Rattle.topology.specs.Tables.{allBelow}
 use Rattle.arm.specs.declared.Link.{Link}
 use Rattle.kinematics.specs.declared.Posed.{Posed}
-use Rattle.kinematics.specs.Blocks.{part, zeroBlock, blockAt, withBlock, copiedFrom}
+use Rattle.kinematics.specs.Blocks.{zeroBlock, blockAt, withBlock, copiedFrom}
 use Rattle.kinematics.specs.Link.{Kept, Inputs, posedOf, laterPosed, rootPosed, blockFrom, keptOf, rootKept, laterKept, finitePlace, finiteKept, withPlace, withKept, TurnedTo}
 use Rattle.kinematics.specs.Pass.{run}
-use Rattle.kinematics.specs.State.{State, state, noLink, linkAt, parentOf, lockedOf, inputsOf, keptAt, putKept, keptOps, resultOf, stateAfter, fineAfter, laid, newBlock, WorkedOut}
+use Rattle.kinematics.specs.State.{State, state, inputsOf, keptAt, putKept, keptOps, resultOf, stateAfter, fineAfter, newBlock, WorkedOut, parentAt, blocksLaid}
 use Rattle.kinematics.proofs.Pass.{turn-shape, tests-run}
-use Rattle.kinematics.proofs.Blocks.{part-length, block-same, block-length, lent-part, with-with}
 use Rattle.kinematics.proofs.Laid.{laid-none, laid-block, laid-more, laid-skip}
 use Rattle.kinematics.proofs.Store.{laws, blank, after-blank}
 
@@ -71,25 +73,25 @@ module _ (ls : List Link) (b : ℕ → Bool) (t : List Float) where
   unfolding allBelow
   fine-more j f g e h q = rw (add-one, h, e, q)
 
-  -- the tables that the pass leaves are the blocks laid over them
-  pub tables-after : (n : ℕ) → stateAfter ls n b t .tables ≡ laid b (newBlock ls b t) n t
-  unfolding stateAfter run laid newBlock putKept
+  -- the tables that the pass leaves are the blocks blocksLaid over them
+  pub tables-after : (n : ℕ) → stateAfter ls n b t .tables ≡ blocksLaid b (newBlock ls b t) n t
+  unfolding stateAfter run blocksLaid newBlock putKept
   tables-after zero = refl
   tables-after (suc n) = go (b n) (tables-after n)
     where
-      go : (m : Bool) → stateAfter ls n b t .tables ≡ laid b (newBlock ls b t) n t
-          → cond m (putKept (stateAfter ls n b t) n (newOf n)) (stateAfter ls n b t) .tables ≡ cond m (withBlock n (newOf n .block) (laid b (newBlock ls b t) n t)) (laid b (newBlock ls b t) n t)
+      go : (m : Bool) → stateAfter ls n b t .tables ≡ blocksLaid b (newBlock ls b t) n t
+          → cond m (putKept (stateAfter ls n b t) n (newOf n)) (stateAfter ls n b t) .tables ≡ cond m (withBlock n (newOf n .block) (blocksLaid b (newBlock ls b t) n t)) (blocksLaid b (newBlock ls b t) n t)
       go true e = ap (withBlock n (newOf n .block)) e
       go false e = e
 
   module _ (n : ℕ) (fit : n ≤ linkLimit) (sized : length ls ≡ linkLimit) (long : tableSize ≤ length t) where
     pub new-size : (j : ℕ) → j < n → length (newBlock ls b t j) ≡ blockSize
     unfolding newBlock stateAfter laws
-    new-size j h = turn-shape keptOps (parentOf ls) (inputsOf ls) linkLimit n fit laws b (state ls t) (sized, long) j h
+    new-size j h = turn-shape keptOps (parentAt ls) (inputsOf ls) linkLimit n fit laws b (state ls t) (sized, long) j h
 
     pub fine-all : fineTo n ≡ fineAfter ls n b t
     unfolding fineAfter stateAfter laws
-    fine-all = tests-run keptOps (parentOf ls) (inputsOf ls) linkLimit n fit laws b (state ls t) (sized, long) finiteKept
+    fine-all = tests-run keptOps (parentAt ls) (inputsOf ls) linkLimit n fit laws b (state ls t) (sized, long) finiteKept
 
 -- ---- one turn
 
@@ -116,9 +118,9 @@ turned-kept p p′ l x start c c′ own link fine ep ec es ej t =
     }
 
 module _ (ls : List Link) (n : ℕ) (fit : n ≤ linkLimit) (sized : length ls ≡ linkLimit) (b : ℕ → Bool) (t work₀ : List Float) (long : tableSize ≤ length t) (room : length work₀ ≡ tableSize)
-    (j : ℕ) (h : j < n) (links : List Link) (el : links ≡ stateAfter ls j b t .links) (work : List Float) (ew : work ≡ laid b (newBlock ls b t) j work₀) where
+    (j : ℕ) (h : j < n) (links : List Link) (el : links ≡ stateAfter ls j b t .links) (work : List Float) (ew : work ≡ blocksLaid b (newBlock ls b t) j work₀) where
   abbrev par : ℕ
-  par = parentOf ls j
+  par = parentAt ls j
 
   abbrev x : Inputs
   x = inputsOf ls j
@@ -130,7 +132,7 @@ module _ (ls : List Link) (n : ℕ) (fit : n ≤ linkLimit) (sized : length ls �
   same-blank k = ap (λ (l : List Link). blank (linkAt l k)) el ∙ after-blank ls j b t k
 
   own-parent : linkAt ls j .parent ≡ par
-  unfolding parentOf
+  unfolding parentAt
   own-parent = refl
 
   -- the link so far differs from the given one in what is kept of it alone
@@ -210,7 +212,7 @@ module _ (ls : List Link) (n : ℕ) (fit : n ≤ linkLimit) (sized : length ls �
       pub turn-links : set links j link ≡ stateAfter ls (j + 1) b t .links
       turn-links = more-links ls b t j links el m link (turned .place ∙ same-with (newOf ls b t j))
 
-      pub turn-work : withBlock j own work ≡ laid b (newBlock ls b t) (j + 1) work₀
+      pub turn-work : withBlock j own work ≡ blocksLaid b (newBlock ls b t) (j + 1) work₀
       unfolding newBlock
       turn-work = laid-more b (newBlock ls b t) j work₀ work ew m own (turned .block)
 
@@ -225,7 +227,7 @@ pub record Held (ls : List Link) (n : ℕ) (b : ℕ → Bool) (t work₀ : List 
   pub room : length work ≡ tableSize
   pub begins : start ≡ startOf (map lockedOf ls) j
   pub refreshed : links ≡ stateAfter ls j b t .links
-  pub blocks : work ≡ laid b (newBlock ls b t) j work₀
+  pub blocks : work ≡ blocksLaid b (newBlock ls b t) j work₀
   pub tested : fine ≡ fineTo ls b t j
 
 pub held-none : (ls : List Link) (n : ℕ) (b : ℕ → Bool) (t work₀ : List Float) → length ls ≡ linkLimit → length work₀ ≡ tableSize → Held ls n b t work₀ 0 0 work₀ ls true
@@ -306,7 +308,7 @@ pub held-all : (ls : List Link) (n : ℕ) → n ≤ linkLimit → length ls ≡ 
 held-all ls n fit sized b t work₀ long j start work links fine k h =
     let e : j ≡ n = omega arith in
     record {
-      blocks = k .blocks ∙ ap (λ (i : ℕ). laid b (newBlock ls b t) i work₀) e;
+      blocks = k .blocks ∙ ap (λ (i : ℕ). blocksLaid b (newBlock ls b t) i work₀) e;
       refreshed = k .refreshed ∙ ap (λ (i : ℕ). stateAfter ls i b t .links) e;
       test = k .tested ∙ ap (fineTo ls b t) e ∙ fine-all ls b t n fit sized long;
     }

@@ -11,7 +11,7 @@ use Rattle.kinematics.specs.declared.Refreshed.{Refreshed}
 use Rattle.kinematics.specs.declared.Turned.{Turned}
 use Rattle.kinematics.specs.Blocks.{blockAt, withBlock}
 use Rattle.kinematics.specs.Link.{Kept, Inputs, rootKept, laterKept, finiteKept, withKept}
-use Rattle.kinematics.specs.State.{State, keptIn, every, stateAfter, fineAfter, cleared}
+use Rattle.kinematics.specs.State.{State, keptIn, stateAfter, fineAfter, cleared, everyLink}
 
 pub record Outcome : Type 0 where
   pub answer : Refreshed
@@ -57,8 +57,8 @@ refreshOne l above start j t =
     (turnedOut (record { link = withKept l k; fine = true }) (withBlock j (k .block) t))
     (turnedOut (record { link = l; fine = false }) t)
 
--- every link, over cleared tables
+-- everyLink link, over cleared tables
 unfoldable pub refreshAll : List Link → ℕ → List Float → Outcome
 refreshAll ls n t =
     let count = min n linkLimit in
-    passed (leb tableSize (length t) && fineAfter ls count every (cleared t)) (stateAfter ls count every (cleared t)) ls t
+    passed (leb tableSize (length t) && fineAfter ls count everyLink (cleared t)) (stateAfter ls count everyLink (cleared t)) ls t

@@ -10,15 +10,7 @@ use Rattle.masks.specs.Masks.{isFree, dofsBelow}
 use Rattle.planar.specs.declared.Rotation.{Rotation}
 use Rattle.planar.specs.declared.Point.{Point}
 
--- ---- parts of a list
-
--- the n entries from `at` on
-abbrev pub part : ℕ → ℕ → List Float → List Float
-part at n s = take n (drop at s)
-
--- the list with those replaced by p
-abbrev pub withPart : ℕ → ℕ → List Float → List Float → List Float
-withPart at n p s = take at s ++ (p ++ drop (at + n) s)
+-- ---- the tables
 
 -- link j's block in the tables, read and written
 abbrev pub blockAt : ℕ → List Float → List Float

@@ -5,6 +5,7 @@ use mathlib.Core.Bool.{Bool, true, false}
 use mathlib.Core.List.{List, map}
 use lib.ListN.{length, drop, getD}
 use lib.Ieee.{Float, nan}
+use Rattle.arm.specs.Arm.{linkAt, lockedOf}
 use Rattle.limits.specs.Limits.{linkLimit, dofLimit, blockSize, tableSize}
 use Rattle.floats.specs.Floats.{zero32}
 use Rattle.masks.specs.Masks.{dofsOf}
@@ -15,7 +16,7 @@ use Rattle.kinematics.specs.Blocks.{blockAt, zeroBlock}
 use Rattle.kinematics.specs.declared.Posed.{Posed}
 use Rattle.kinematics.specs.Link.{blockFrom, finiteKept}
 use Rattle.kinematics.specs.Pass.{Closed}
-use Rattle.kinematics.specs.State.{State, state, linkAt, parentOf, lockedOf, keptAt, every, resultOf, stateAfter, fineAfter, cleared}
+use Rattle.kinematics.specs.State.{State, state, keptAt, resultOf, stateAfter, fineAfter, cleared, parentAt, everyLink}
 
 -- what is kept of link j is what its parent's gives
 abbrev pub Fresh : List Link → List Float → ℕ → Type 0
@@ -33,7 +34,7 @@ pub record Fits (ls : List Link) (n : ℕ) (t : List Float) : Type 0 where
 
 -- only what is at or below a changed link is marked: what is below a marked link is marked, unmarked links are fresh and finite, unused blocks are +0
 pub record Ready (ls : List Link) (n : ℕ) (b : ℕ → Bool) (t : List Float) : Type 0 where
-  pub closed : Closed (parentOf ls) b n
+  pub closed : Closed (parentAt ls) b n
   pub fresh : (j : ℕ) → j < n → b j ≡ false → Fresh ls t j
   pub finite : (j : ℕ) → j < n → b j ≡ false → finiteKept (keptAt (state ls t) j) ≡ true
   pub unused : (j : ℕ) → n ≤ j → j < linkLimit → blockAt j t ≡ zeroBlock
@@ -41,11 +42,11 @@ pub record Ready (ls : List Link) (n : ℕ) (b : ℕ → Bool) (t : List Float) 
 -- then the pass over the marked links leaves, bit for bit, what the full pass over cleared tables leaves, and is not finite exactly when that isn't
 abbrev pub LikeFull : Type 0
 LikeFull = (ls : List Link) (n : ℕ) (b : ℕ → Bool) (t : List Float) → Fits ls n t → Ready ls n b t
-    → (stateAfter ls n b t ≡ stateAfter ls n every (cleared t)) × (fineAfter ls n b t ≡ fineAfter ls n every (cleared t))
+    → (stateAfter ls n b t ≡ stateAfter ls n everyLink (cleared t)) × (fineAfter ls n b t ≡ fineAfter ls n everyLink (cleared t))
 
--- the full pass leaves every link fresh
+-- the full pass leaves everyLink link fresh
 abbrev pub AllFresh : Type 0
-AllFresh = (ls : List Link) (n : ℕ) (t : List Float) → Fits ls n t → (j : ℕ) → j < n → keptAt (stateAfter ls n every t) j ≡ resultOf ls (stateAfter ls n every t) j
+AllFresh = (ls : List Link) (n : ℕ) (t : List Float) → Fits ls n t → (j : ℕ) → j < n → keptAt (stateAfter ls n everyLink t) j ≡ resultOf ls (stateAfter ls n everyLink t) j
 
 -- unmarked links and their blocks, links past the first n, and memory past the tables are untouched
 abbrev pub Stays : Type 0
@@ -54,7 +55,7 @@ Stays = (ls : List Link) (n : ℕ) (b : ℕ → Bool) (t : List Float) → Fits 
 
 -- parents are no later than their links
 abbrev pub Rising : List Link → ℕ → Type 0
-Rising ls n = (j : ℕ) → j < n → parentOf ls j ≤ j
+Rising ls n = (j : ℕ) → j < n → parentAt ls j ≤ j
 
 -- links that agree up to n get the same results, tables and test
 abbrev pub UpTo : Type 0
@@ -74,5 +75,5 @@ ZerosStay = (p : Posed) (locked start d : ℕ) (b : List Float) → length b ≡
 
 -- so where all is finite the full pass leaves +0 in each block past its link's own columns
 abbrev pub ZerosPast : Type 0
-ZerosPast = (ls : List Link) (n : ℕ) (t : List Float) → Fits ls n t → fineAfter ls n every t ≡ true → (j : ℕ) → j < n
-    → ZeroFrom (startOf (map lockedOf ls) j + dofsOf (linkAt ls j .joint .locked)) (blockAt j (stateAfter ls n every t .tables))
+ZerosPast = (ls : List Link) (n : ℕ) (t : List Float) → Fits ls n t → fineAfter ls n everyLink t ≡ true → (j : ℕ) → j < n
+    → ZeroFrom (startOf (map lockedOf ls) j + dofsOf (linkAt ls j .joint .locked)) (blockAt j (stateAfter ls n everyLink t .tables))

@@ -6,10 +6,10 @@ use mathlib.Core.List.{List, [], _++_, map}
 use lib.Dec.{eqb}
 use lib.ListN.{getD, set, drop, replicate}
 use lib.Ieee.{Float, nan}
+use Rattle.lists.specs.Numbers.{allBelow}
 use Rattle.limits.specs.Limits.{tableSize}
 use Rattle.floats.specs.Floats.{zero32}
 use Rattle.masks.specs.Starts.{startOf}
-use Rattle.topology.specs.Tables.{allBelow}
 use Rattle.planar.specs.declared.Pose.{Pose}
 use Rattle.planar.specs.declared.Point.{Point}
 use Rattle.multibody_joint.specs.declared.Joint.{Joint}
@@ -20,22 +20,9 @@ use Rattle.kinematics.specs.Pass.{Ops, newAt, run}
 
 -- ---- the links
 
--- what is read past the end of a list, where no link stands
-abbrev pub noLink : Link
-noLink =
-    let p : Point = record { x = nan; y = nan } in
-    let q : Pose = record { re = nan; im = nan; x = nan; y = nan } in
-    let j : Joint = record { locked = 0; limit = 0; motor = 0; frame1 = q; frame2 = q; coordinates = []; rotation = record { re = nan; im = nan }; stiffness = []; rest = [] } in
-    record { tag = 0; parent = 0; joint = j; centre = p; world = q; shift02 = p; shift23 = p }
-
-abbrev pub linkAt : List Link → ℕ → Link
-linkAt ls j = getD ls j noLink
-
-unfoldable pub parentOf : List Link → ℕ → ℕ
-parentOf ls j = linkAt ls j .parent
-
-abbrev pub lockedOf : Link → ℕ
-lockedOf l = l .joint .locked
+-- the parent of link j
+unfoldable pub parentAt : List Link → ℕ → ℕ
+parentAt ls j = linkAt ls j .parent
 
 -- link j's inputs; its start is the sum of all earlier links' DoFs
 unfoldable pub inputsOf : List Link → ℕ → Inputs
@@ -43,7 +30,7 @@ inputsOf ls j = record {
   joint = linkAt ls j .joint;
   centre = linkAt ls j .centre;
   start = startOf (map lockedOf ls) j;
-  above = linkAt ls (parentOf ls j) .centre;
+  above = linkAt ls (parentAt ls j) .centre;
 }
 
 -- ---- what is kept
@@ -74,8 +61,9 @@ keptOps = record { root = rootKept; later = laterKept; at = keptAt; put = putKep
 abbrev pub marked : List Bool → ℕ → Bool
 marked marks j = getD marks j false
 
-abbrev pub every : ℕ → Bool
-every j = true
+-- all of them
+abbrev pub everyLink : ℕ → Bool
+everyLink j = true
 
 -- link j alone
 abbrev pub only : ℕ → ℕ → Bool
@@ -83,11 +71,11 @@ only j k = eqb k j
 
 -- link j's results by what a state keeps of its parent, its inputs being those of the links ls
 abbrev pub resultOf : List Link → State → ℕ → Kept
-resultOf ls s j = newAt keptOps (parentOf ls) (inputsOf ls) s j
+resultOf ls s j = newAt keptOps (parentAt ls) (inputsOf ls) s j
 
 -- of the first n links those marked are worked out, rising, each from what is kept of its parent
 unfoldable pub stateAfter : List Link → ℕ → (ℕ → Bool) → List Float → State
-stateAfter ls n b t = run keptOps (parentOf ls) (inputsOf ls) b n (state ls t)
+stateAfter ls n b t = run keptOps (parentAt ls) (inputsOf ls) b n (state ls t)
 
 -- every result that is worked out is finite
 unfoldable pub fineAfter : List Link → ℕ → (ℕ → Bool) → List Float → Bool
@@ -100,9 +88,9 @@ cleared t = replicate tableSize zero32 ++ drop tableSize t
 -- ---- its blocks in another list, as a work area holds them
 
 -- the blocks `new` of the first n links that are marked, laid over t
-unfoldable pub laid : (ℕ → Bool) → (ℕ → List Float) → ℕ → List Float → List Float
-laid b new zero t = t
-laid b new (suc j) t = cond (b j) (withBlock j (new j) (laid b new j t)) (laid b new j t)
+unfoldable pub blocksLaid : (ℕ → Bool) → (ℕ → List Float) → ℕ → List Float → List Float
+blocksLaid b new zero t = t
+blocksLaid b new (suc j) t = cond (b j) (withBlock j (new j) (blocksLaid b new j t)) (blocksLaid b new j t)
 
 abbrev pub blocksOf : List Float → ℕ → List Float
 blocksOf t j = blockAt j t
@@ -113,6 +101,6 @@ newBlock ls b t j = resultOf ls (stateAfter ls j b t) j .block
 
 -- what a pass leaves whose blocks go into a work area
 pub record WorkedOut (ls : List Link) (n : ℕ) (b : ℕ → Bool) (t work work′ : List Float) (links : List Link) (fine : Bool) : Type 0 where
-  pub blocks : work′ ≡ laid b (newBlock ls b t) n work
+  pub blocks : work′ ≡ blocksLaid b (newBlock ls b t) n work
   pub refreshed : links ≡ stateAfter ls n b t .links
   pub test : fine ≡ fineAfter ls n b t

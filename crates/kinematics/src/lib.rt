@@ -5,10 +5,11 @@ ghost use mathlib.Core.Bool.{cond};
 ghost use Prim.Native.Nat.{_+_, _*_, _≤_, _<_};
 ghost use lib.Dec.{ltb};
 ghost use lib.ListN.{length};
+ghost use Rattle.lists.specs.Lists.{part, withPart};
 ghost use Rattle.limits.specs.Limits.{linkLimit, dofLimit, blockSize, tableSize};
-ghost use Rattle.kinematics.specs.Blocks.{part, withPart, blockAt, withBlock, zeroBlock, shifted, columnAdded, axisAdded, ownAdded, copiedFrom};
+ghost use Rattle.kinematics.specs.Blocks.{blockAt, withBlock, zeroBlock, shifted, columnAdded, axisAdded, ownAdded, copiedFrom};
 ghost use Rattle.kinematics.specs.Link.{rootPosed, laterPosed, posedOf, blockFrom, withPlace, finitePlace, TurnedTo};
-ghost use Rattle.kinematics.specs.State.{marked, blocksOf, laid, WorkedOut};
+ghost use Rattle.kinematics.specs.State.{marked, blocksOf, WorkedOut, blocksLaid};
 ghost use Rattle.kinematics.specs.Answers.{out, refreshMarked, oneFits, turnedOut, refreshOne, refreshAll};
 use arm::Link;
 use floats::all_finite;
@@ -274,7 +275,7 @@ fn commit(marks: [bool; LINKS], n: usize, work: &[f32], tables: &mut [f32])
     requires { ⌜ n ≤ linkLimit ⌝ }
     requires { ⌜ length (now work) ≡ tableSize ⌝ }
     requires { ⌜ tableSize ≤ length (now tables) ⌝ }
-    ensures { λ _. ⌜ now (tables .exit) ≡ laid (marked marks) (blocksOf (now (work .entry))) n (now (tables .entry)) ⌝ }
+    ensures { λ _. ⌜ now (tables .exit) ≡ blocksLaid (marked marks) (blocksOf (now (work .entry))) n (now (tables .entry)) ⌝ }
 {
     let mut j: usize = 0;
     while j < n {

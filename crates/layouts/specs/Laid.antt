@@ -3,6 +3,7 @@ use Prim.Native.Nat.{ℕ}
 use mathlib.Core.List.{[], _∷_}
 use lib.ListN.{replicate}
 use lib.Ieee.{Float}
+use Rattle.refusal.specs.declared.Counted.{Counted, Counted}
 use Rattle.limits.specs.Limits.{linkLimit, couplingLimit, dofLimit}
 use Rattle.addition.specs.declared.NewLink.{NewLink}
 use Rattle.arm.specs.declared.Arm.{Arm}
@@ -16,14 +17,12 @@ use Rattle.arm_views.specs.declared.SpringAnswer.{SpringAnswer}
 use Rattle.exports_views.specs.declared.RowPart.{RowPart}
 use Rattle.fill_jacobians.specs.declared.Force.{Force}
 use Rattle.fill_jacobians.specs.declared.Sums.{Sums}
-use Rattle.masks.specs.declared.Count.{Count}
 use Rattle.multibody_joint.specs.declared.Joint.{Joint}
 use Rattle.multibody_joint.specs.declared.Spring.{Spring}
 use Rattle.planar.specs.declared.Point.{Point}
 use Rattle.planar.specs.declared.Pose.{Pose}
 use Rattle.planar.specs.declared.Rotated.{Rotated}
 use Rattle.planar.specs.declared.Rotation.{Rotation}
-use Rattle.topology.specs.declared.Counted.{Counted}
 use Rattle.unit_multibody_joint.specs.declared.ConstraintRow.{ConstraintRow}
 use Rattle.unit_multibody_joint.specs.declared.Limits.{Limits}
 
@@ -72,7 +71,7 @@ laidEdited refusal arm = record { refusal = refusal; arm = arm }
 abbrev pub laidRotated : ℕ → Rotation → Rotated
 laidRotated refusal rotation = record { refusal = refusal; rotation = rotation }
 
-abbrev pub laidCount : ℕ → ℕ → Count
+abbrev pub laidCount : ℕ → ℕ → Counted
 laidCount refusal count = record { refusal = refusal; count = count }
 
 abbrev pub laidCounted : ℕ → ℕ → Counted

@@ -8,21 +8,19 @@ use native.Mathlib.Numerals.{add-one}
 use lib.ListN.{length, set, length-append, length-set}
 use lib.Seq.{drop-cons, set-at}
 use lib.Ieee.{Float, nan}
+use Rattle.lists.specs.Lists.{laid}
 use Rattle.masks.specs.Masks.{one, isFree, dofsBelow, dampingOf, dampingBelow}
 use Rattle.masks.specs.Starts.{startOf, startsTo}
-use Rattle.masks.specs.Answers.{laid}
 use Rattle.masks.proofs.Laws.{below-suc}
 use Rattle.masks.proofs.Totals.{length-startsTo}
 
 -- at first nothing is laid
 pub laid-none : {A : Type 0} (old : List A) → old ≡ laid [] old
-unfolding laid
 laid-none old = refl
 
 -- one entry more
 laid-more : {A : Type 0} (row old l : List A) (i : ℕ) (x d : A) → l ≡ laid row old → length row ≡ i → i < length old
     → set l i x ≡ laid (row ++ (x ∷ [])) old
-unfolding laid
 laid-more row old l i x d e n h =
     let m : length (row ++ (x ∷ [])) ≡ suc i = simp length-append (omega arith) in
     rw (e, n, m, drop-cons old i d h, set-at row _ _ x i n, append-assoc)

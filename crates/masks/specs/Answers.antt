@@ -5,14 +5,14 @@ use mathlib.Core.List.{List, [], _∷_, _++_}
 use lib.Dec.{leb}
 use lib.ListN.{length, drop}
 use lib.Ieee.{Float}
+use Rattle.refusal.specs.declared.Counted.{Counted}
 use Rattle.limits.specs.Limits.{linkLimit}
 use Rattle.refusal.specs.Refusal.{unlessOf, lowest}
-use Rattle.masks.specs.declared.Count.{Count}
 use Rattle.masks.specs.Masks.{isMask, isAxis, one, isFree, dofsBelow, dofsOf, dampingRow, constraintsOf}
 use Rattle.masks.specs.Starts.{allMasks, startsOf, totalOf}
 
 -- a count, unless there is a refusal
-unfoldable pub counted : ℕ → ℕ → Count
+unfoldable pub counted : ℕ → ℕ → Counted
 counted zero n = record { refusal = 0; count = n }
 counted (suc k) n = record { refusal = suc k; count = 0 }
 
@@ -22,10 +22,10 @@ laid row lent = row ++ drop (length row) lent
 
 -- the answer of a call and what the memory lent to it then holds
 pub record Outcome (A : Type 0) : Type 0 where
-  pub answer : Count
+  pub answer : Counted
   pub memory : List A
 
-abbrev pub out : {A : Type 0} → Count → List A → Outcome A
+abbrev pub out : {A : Type 0} → Counted → List A → Outcome A
 out answer memory = record { answer = answer; memory = memory }
 
 -- n was counted and the row is laid over the memory, unless there is a refusal
@@ -34,15 +34,15 @@ filled zero n row lent = out (counted 0 n) (laid row lent)
 filled (suc k) n row lent = out (counted (suc k) n) lent
 
 -- `free_axis`: is an axis of a mask free, 1 or 0
-unfoldable pub freeAnswer : ℕ → ℕ → Count
+unfoldable pub freeAnswer : ℕ → ℕ → Counted
 freeAnswer mask axis = counted (lowest (unlessOf (isMask mask && isAxis axis) 5 ∷ [])) (one (isFree mask axis))
 
 -- `dof_count`: the DoFs of a mask
-unfoldable pub dofsAnswer : ℕ → Count
+unfoldable pub dofsAnswer : ℕ → Counted
 dofsAnswer mask = counted (lowest (unlessOf (isMask mask) 5 ∷ [])) (dofsOf mask)
 
 -- `dof_count_below`: the DoFs of a mask below an axis
-unfoldable pub belowAnswer : ℕ → ℕ → Count
+unfoldable pub belowAnswer : ℕ → ℕ → Counted
 belowAnswer mask axis = counted (lowest (unlessOf (isMask mask && isAxis axis) 5 ∷ [])) (dofsBelow mask axis)
 
 -- what refuses `starts`: too little room for a place a mask, more masks than an arm has links, one that is none
@@ -67,6 +67,6 @@ unfoldable pub dampingAnswer : ℕ → List Float → Outcome Float
 dampingAnswer mask lent = filled (dampingRefusal mask (length lent)) (dofsOf mask) (dampingRow mask) lent
 
 -- `num_velocity_constraints`: the velocity constraints of a joint
-unfoldable pub constraintsAnswer : ℕ → ℕ → ℕ → Count
+unfoldable pub constraintsAnswer : ℕ → ℕ → ℕ → Counted
 constraintsAnswer locked limit motor =
     counted (lowest (unlessOf (isMask locked && isMask limit && isMask motor) 5 ∷ [])) (constraintsOf locked limit motor)

@@ -3,10 +3,12 @@
 ghost use mathlib.Core.Path.{_≡_};
 ghost use Prim.Native.Nat.{_<_, _≤_};
 ghost use lib.ListN.{length};
+ghost use Rattle.lists.specs.Lists.{laid};
+ghost use Rattle.refusal.specs.Counted.{out, countedOf};
 ghost use Rattle.limits.specs.Limits.{linkLimit};
 ghost use Rattle.masks.specs.Masks.{isMask, isAxis, bitOf, one, isFree, dofsBelow, dofsOf, constraintsAt, dampingOf, dampingRow};
 ghost use Rattle.masks.specs.Starts.{allMasks, startsOf, totalOf};
-ghost use Rattle.masks.specs.Answers.{out, counted, laid, freeAnswer, dofsAnswer, belowAnswer, startsRefusal, startsAnswer, dampingRefusal, dampingAnswer, constraintsAnswer};
+ghost use Rattle.masks.specs.Answers.{freeAnswer, dofsAnswer, belowAnswer, startsRefusal, startsAnswer, dampingRefusal, dampingAnswer, constraintsAnswer};
 use limits::LINKS;
 use refusal::lower;
 use refusal::unless;
@@ -106,7 +108,7 @@ pub fn axis_damping(axis: u8) -> f32
 // The count, unless there is a refusal.
 fn answer(refusal: u8, count: usize) -> Count
     requires { ⌜ count < 256 ⌝ }
-    ensures { λ r. ⌜ r ≡ counted refusal count ⌝ }
+    ensures { λ r. ⌜ r ≡ countedOf refusal count ⌝ }
 {
     if refusal == 0 {
         return Count {

@@ -8,7 +8,7 @@ use native.Mathlib.Omega.{arith}
 use borrow.Author.Tests.{le-leb, ltb-true}
 use lib.Dec.{ltb}
 use lib.ListN.{length, drop, length-append, length-drop}
-use Rattle.refusal.proofs.Tests.{both-hold, both}
+use Rattle.lists.proofs.Bools.{both-hold, both}
 use Rattle.numerals.specs.Decimal.{digit, digitsOf, digitCount, decimal, decimalCount, isDigit, areDigits, valueFrom}
 
 -- ---- how many

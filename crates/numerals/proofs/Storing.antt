@@ -11,7 +11,7 @@ use borrow.Rule.Slice.PartAt.{part-to-end}
 use lib.Dec.{ltb}
 use lib.ListN.{length, take, drop, set}
 use lib.Seq.{paste, take-length}
-use Rattle.refusal.proofs.Tests.{both-hold}
+use Rattle.lists.proofs.Bools.{both-hold}
 use Rattle.numerals.specs.Written.{written, bytesWritten}
 use Rattle.numerals.specs.Decimal.{digit, digitsOf, decimal}
 

@@ -8,7 +8,7 @@ use lib.Dec.{eqb, ltb}
 use lib.ListN.{getD, set}
 use lib.Seq.{getD-set-other}
 use lib.Ieee.{Float, nan}
-use Rattle.refusal.proofs.Tests.{both-hold, both}
+use Rattle.lists.proofs.Bools.{both-hold, both}
 use Rattle.floats.specs.Floats.{isFinite, allFinite}
 use Rattle.planar.specs.declared.Rotation.{Rotation}
 use Rattle.planar.specs.Rotation.{rotationAt, isBeyond}

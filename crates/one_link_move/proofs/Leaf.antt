@@ -10,11 +10,11 @@ use borrow.Author.Tests.{lt-leb, ne-eqb}
 use lib.Dec.{eqb, leb}
 use lib.ListN.{length, take, getD, List·getD-eq-default}
 use lib.Seq.{getD-take}
+use Rattle.lists.proofs.Numbers.{length-each, getD-each, all-at}
+use Rattle.lists.specs.Numbers.{allBelow}
+use Rattle.lists.proofs.Lists.{any-default}
 use Rattle.limits.specs.Limits.{linkLimit}
-use Rattle.floats.proofs.Rows.{any-default}
-use Rattle.topology.specs.Tables.{allBelow}
-use Rattle.topology.specs.Parents.{parentOf, atOrBelow, marks}
-use Rattle.topology.proofs.Tables.{length-each, getD-each, all-at}
+use Rattle.topology.specs.Parents.{atOrBelow, marks, parentIn}
 use Rattle.topology.proofs.Branch.{mark-none, mark-alone, mark-more}
 use Rattle.kinematics.specs.State.{marked, only}
 use Rattle.one_link_move.specs.Move.{leaf, noChild}
@@ -32,18 +32,18 @@ other false true h e = sym h
 other false false h e = refl
 
 module _ (ps : List ℕ) (link : ℕ) (alone : leaf ps link ≡ true) where
-  no-child : (j : ℕ) → j < length ps → parentOf ps j < j → eqb (parentOf ps j) link ≡ false
+  no-child : (j : ℕ) → j < length ps → parentIn ps j < j → eqb (parentIn ps j) link ≡ false
   no-child j h q = elim (decLt link j) [
     | yes l ↦ other (leb j link) _ (all-at (length ps) (noChild ps link) alone j h) (lt-leb j link l)
-    | no l ↦ ne-eqb (parentOf ps j) link (omega arith)
+    | no l ↦ ne-eqb (parentIn ps j) link (omega arith)
   ]
 
   mark : (m j : ℕ) → j < m → j < length ps → atOrBelow ps link j ≡ eqb j link
   mark zero j l h = absurd (omega arith)
-  mark (suc m) j l h = elim (decLt (parentOf ps j) j) [
+  mark (suc m) j l h = elim (decLt (parentIn ps j) j) [
     | yes q ↦
         mark-more ps link j h q
-        ∙ ap (λ (b : Bool). eqb j link || b) (mark m (parentOf ps j) (omega arith) (omega arith) ∙ no-child j h q)
+        ∙ ap (λ (b : Bool). eqb j link || b) (mark m (parentIn ps j) (omega arith) (omega arith) ∙ no-child j h q)
         ∙ or-false (eqb j link)
     | no q ↦ mark-alone ps link j h (omega arith)
   ]

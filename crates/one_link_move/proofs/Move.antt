@@ -11,38 +11,40 @@ use borrow.Author.Tests.{ltb-true}
 use lib.Dec.{ltb}
 use lib.ListN.{length}
 use lib.Ieee.{Float}
-use Rattle.refusal.proofs.Tests.{both-hold, holds}
+use Rattle.lists.proofs.Every.{same-tests}
+use Rattle.lists.proofs.Lists.{same-map, same-front}
+use Rattle.arm.specs.Sized.{Sized}
+use Rattle.lists.proofs.Modified.{length-modify, modify-same, modify-other, modify-field, modify-tests}
+use Rattle.lists.specs.Tests.{every}
+use Rattle.lists.specs.Lists.{modify}
+use Rattle.lists.proofs.Bools.{both-hold}
+use Rattle.refusal.proofs.Tests.{holds}
 use Rattle.refusal.proofs.Laws.{none-of}
 use Rattle.planar.specs.Poses.{finiteRotation}
 use Rattle.masks.specs.Starts.{totalOf, startOf}
 use Rattle.floats.specs.Floats.{allFinite}
 use Rattle.topology.specs.Above.{AtOrAbove, itself, above}
-use Rattle.topology.specs.Parents.{parentsFit, marks}
-use Rattle.topology.specs.Parents as by-list
+use Rattle.topology.specs.Parents.{parentsFit, marks, parentIn}
 use Rattle.topology.proofs.Theorems.{marks-right}
 use Rattle.arm.specs.declared.Link.{Link}
 use Rattle.arm.specs.declared.Arm.{Arm}
-use Rattle.arm.specs.Arm.{liveLinks, linksOf, couplingsOf, tagOf, tagsOf, parentsOf, masksOf, dofCountOf, entriesTo, rowsOf}
-use Rattle.arm.specs.Arm as of-arm
-use Rattle.arm.specs.Edits.{modify, withLinks}
+use Rattle.arm.specs.Arm.{liveLinks, linksOf, couplingsOf, tagOf, tagsOf, parentsOf, masksOf, dofCountOf, entriesTo, rowsOf, noLink, linkAt, lockedOf, parentOf}
+use Rattle.arm.specs.Edits.{withLinks}
 use Rattle.limits.specs.Limits.{linkLimit}
-use Rattle.arm.specs.HandedIn.{every, unique, tagsUnique, parentsEarlier, linkMasksFit, rootMaskFits, rootFits, linkFinite, rowsFinite, linkAngleFits, armRefusal}
+use Rattle.arm.specs.HandedIn.{unique, tagsUnique, parentsEarlier, linkMasksFit, rootMaskFits, rootFits, linkFinite, rowsFinite, linkAngleFits, armRefusal}
 use Rattle.arm.proofs.Accepted.{counts-accepted}
-use Rattle.arm.proofs.Modified.{length-modify, modify-same, modify-other, modify-field, modify-tests}
 use Rattle.kinematics.specs.Blocks.{blockAt}
 use Rattle.kinematics.specs.Link.{finiteKept}
-use Rattle.kinematics.specs.State.{state, noLink, linkAt, parentOf, lockedOf, inputsOf, keptAt, keptOps, marked}
+use Rattle.kinematics.specs.State.{state, inputsOf, keptAt, keptOps, marked, parentAt}
 use Rattle.kinematics.proofs.Pass.{new-same}
-use Rattle.working.specs.Full.{Settled}
-use Rattle.settled.specs.Above.{aboveFinite}
+use Rattle.full_working.specs.Full.{Settled}
+use Rattle.one_link.specs.Above.{aboveFinite}
 use Rattle.kinematics.specs.Promises.{Fresh, Ready}
-use Rattle.arm.specs.Agree.{Sized}
-use Rattle.settled.proofs.Accepted.{Accepted}
-use Rattle.settled.proofs.Lists.{same-map, same-front, same-tests}
-use Rattle.settled.proofs.Parents.{parents-count, parent-of, parent-le}
-use Rattle.settled.proofs.Settles.{allFine, Facts, facts}
-use Rattle.settled.proofs.Sticky.{rotations-finite}
-use Rattle.settled.proofs.Right.{Edit, right}
+use Rattle.one_link.proofs.Accepted.{Accepted}
+use Rattle.one_link.proofs.Parents.{parents-count, parent-of, parent-le}
+use Rattle.one_link.proofs.Settles.{allFine, Facts, facts}
+use Rattle.one_link.proofs.Sticky.{rotations-finite}
+use Rattle.one_link.proofs.Right.{Edit, right}
 use Rattle.one_link_move.specs.declared.Change.{Change}
 use Rattle.one_link_move.specs.Change.{changed, movedInputs}
 use Rattle.one_link_move.specs.Move.{changeFinite, angleWithin, moveRefusal, linkMoved}
@@ -63,7 +65,7 @@ passed a t link change e =
     let p₉ = none-of _ _ (none-of _ _ (p₇ .1) .1) in
     record {
       there = ltb-true link (a .«link_count») (holds (ltb link (a .«link_count»)) 3 (p₄ .0));
-      floats = both-hold _ _ (holds (changeFinite change && aboveFinite link (by-list.parentOf (parentsOf a) link) t) 6 (p₇ .0)) .0;
+      floats = both-hold _ _ (holds (changeFinite change && aboveFinite link (parentIn (parentsOf a) link) t) 6 (p₇ .0)) .0;
       angle = holds (angleWithin change) 8 (p₉ .0);
     }
 
@@ -106,33 +108,33 @@ module _ (a : Arm) (t : List Float) (sized : Sized a) (settled : Settled a t) (l
   unfolding parentsEarlier
   fit = facts-of .ok .parents
 
-  parent-after : (j : ℕ) → parentOf ls′ j ≡ parentOf ls j
-  unfolding parentOf
+  parent-after : (j : ℕ) → parentAt ls′ j ≡ parentAt ls j
+  unfolding parentAt
   parent-after j = modify-field (changed change) (λ (l : Link). l .parent) (same-parent change) link j ls noLink
 
   -- ---- marks
 
-  mark-of : (j : ℕ) → j < n → AtOrAbove (by-list.parentOf (parentsOf a)) link j → b j ≡ true
+  mark-of : (j : ℕ) → j < n → AtOrAbove (parentIn (parentsOf a)) link j → b j ≡ true
   mark-of j h u = marks-right (parentsOf a) fit (omega (arith, parents-length, facts-of .few)) link j (omega (arith, parents-length)) .1 u
 
-  of-mark : (j : ℕ) → j < n → b j ≡ true → AtOrAbove (by-list.parentOf (parentsOf a)) link j
+  of-mark : (j : ℕ) → j < n → b j ≡ true → AtOrAbove (parentIn (parentsOf a)) link j
   of-mark j h e = marks-right (parentsOf a) fit (omega (arith, parents-length, facts-of .few)) link j (omega (arith, parents-length)) .0 e
 
-  closed : (j : ℕ) → j < n → parentOf ls′ j < j → b (parentOf ls′ j) ≡ true → b j ≡ true
+  closed : (j : ℕ) → j < n → parentAt ls′ j < j → b (parentAt ls′ j) ≡ true → b j ≡ true
   closed j h q e =
-      let p : parentOf ls′ j ≡ by-list.parentOf (parentsOf a) j = parent-after j ∙ parent-of a (sized .links) (facts-of .few) j h in
-      mark-of j h (above (omega arith) (of-mark (by-list.parentOf (parentsOf a) j) (omega arith) (subst (λ (i : ℕ). b i ≡ true) p e)))
+      let p : parentAt ls′ j ≡ parentIn (parentsOf a) j = parent-after j ∙ parent-of a (sized .links) (facts-of .few) j h in
+      mark-of j h (above (omega arith) (of-mark (parentIn (parentsOf a) j) (omega arith) (subst (λ (i : ℕ). b i ≡ true) p e)))
 
   not-link : (j : ℕ) → j < n → b j ≡ false → j ≢ link
   not-link j h e q = absurd (true≢false (sym (subst (λ (i : ℕ). b i ≡ true) (sym q) (mark-of link (k .there) itself)) ∙ e))
 
-  not-child : (j : ℕ) → j < n → b j ≡ false → parentOf ls j ≢ link
-  not-child j h e q = elim (decLt (parentOf ls j) j) [
+  not-child : (j : ℕ) → j < n → b j ≡ false → parentAt ls j ≢ link
+  not-child j h e q = elim (decLt (parentAt ls j) j) [
     | yes l ↦
-        let l′ : parentOf ls′ j < j = omega (arith, parent-after j) in
+        let l′ : parentAt ls′ j < j = omega (arith, parent-after j) in
         absurd (true≢false (sym (closed j h l′ (subst (λ (i : ℕ). b i ≡ true) (sym (parent-after j ∙ q)) (mark-of link (k .there) itself))) ∙ e))
     | no l ↦
-        let own : parentOf ls j ≡ j = omega (arith, parent-le a (sized .links) (facts-of .few) (facts-of .ok .parents) j h) in
+        let own : parentAt ls j ≡ j = omega (arith, parent-le a (sized .links) (facts-of .few) (facts-of .ok .parents) j h) in
         not-link j h e (sym own ∙ q)
   ]
 
@@ -145,19 +147,19 @@ module _ (a : Arm) (t : List Float) (sized : Sized a) (settled : Settled a t) (l
   starts : map lockedOf ls ≡ map lockedOf ls′
   starts = sym (same-map lockedOf noLink ls′ ls same-length (λ j. modify-field (changed change) lockedOf (same-locked change) link j ls noLink))
 
-  inputs-kept : (j : ℕ) → j ≢ link → parentOf ls j ≢ link → inputsOf ls j ≡ inputsOf ls′ j
+  inputs-kept : (j : ℕ) → j ≢ link → parentAt ls j ≢ link → inputsOf ls j ≡ inputsOf ls′ j
   unfolding inputsOf
   inputs-kept j h q =
       let p = sym (modify-other (changed change) link j ls noLink h) in
       let s = ap (λ (ms : List ℕ). startOf ms j) starts in
-      let u = ap (λ (x : Link). x .centre) (sym (modify-other (changed change) link (parentOf ls j) ls noLink q)) ∙ ap (λ (i : ℕ). linkAt ls′ i .centre) (sym (parent-after j)) in
+      let u = ap (λ (x : Link). x .centre) (sym (modify-other (changed change) link (parentAt ls j) ls noLink q)) ∙ ap (λ (i : ℕ). linkAt ls′ i .centre) (sym (parent-after j)) in
       λ i. record { joint = p i .joint; centre = p i .centre; start = s i; above = u i }
 
   fresh : (j : ℕ) → j < n → b j ≡ false → Fresh ls′ t j
   fresh j h e =
       as-was j
       ∙ facts-of .fresh j h
-      ∙ new-same keptOps (parentOf ls) (inputsOf ls) (parentOf ls′) (inputsOf ls′) (state ls t) (state ls′ t) j (sym (parent-after j)) (inputs-kept j (not-link j h e) (not-child j h e)) (λ q. sym (as-was (parentOf ls j)))
+      ∙ new-same keptOps (parentAt ls) (inputsOf ls) (parentAt ls′) (inputsOf ls′) (state ls t) (state ls′ t) j (sym (parent-after j)) (inputs-kept j (not-link j h e) (not-child j h e)) (λ q. sym (as-was (parentAt ls j)))
 
   ready : Ready ls′ n b t
   ready = record {
@@ -179,7 +181,7 @@ module _ (a : Arm) (t : List Float) (sized : Sized a) (settled : Settled a t) (l
 
   new-parents : parentsOf new ≡ parentsOf a
   unfolding parentsOf linksOf
-  new-parents = same-front of-arm.parentOf noLink (liveLinks a) ls′ ls same-length (λ j. modify-field (changed change) of-arm.parentOf (same-parent change) link j ls noLink)
+  new-parents = same-front parentOf noLink (liveLinks a) ls′ ls same-length (λ j. modify-field (changed change) parentOf (same-parent change) link j ls noLink)
 
   new-rows : rowsOf new ≡ rowsOf a
   unfolding rowsOf dofCountOf

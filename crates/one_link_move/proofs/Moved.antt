@@ -24,10 +24,10 @@ use Rattle.kinematics.specs.declared.Turned.{Turned}
 use Rattle.kinematics.specs.State.{marked, only}
 use Rattle.kinematics.specs.Answers.{out as left, refreshMarked, turnedOut, refreshOne}
 use Rattle.kinematics.proofs.One.{asMarked}
-use Rattle.working.specs.Outcome.{out, workedBy, workedMarked}
-use Rattle.working.proofs.Passed.{passed-on, one-on, one-off}
-use Rattle.working.proofs.Refused.{accepted}
-use Rattle.settled.proofs.One.{one-placed}
+use Rattle.full_working.specs.Outcome.{out, workedBy, workedMarked}
+use Rattle.full_working.proofs.Passed.{passed-on, one-on, one-off}
+use Rattle.full_working.proofs.Refused.{accepted}
+use Rattle.one_link.proofs.One.{one-placed}
 use Rattle.one_link_move.specs.declared.Change.{Change}
 use Rattle.one_link_move.specs.Change.{changed}
 use Rattle.one_link_move.specs.Move.{moveRefusal, leaf, answered, linkMoved}

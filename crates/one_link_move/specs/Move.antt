@@ -5,13 +5,13 @@ use mathlib.Core.List.{List, [], _∷_}
 use lib.Dec.{eqb, leb, ltb}
 use lib.ListN.{length}
 use lib.Ieee.{Float}
+use Rattle.lists.specs.Numbers.{allBelow}
 use Rattle.refusal.specs.Refusal.{unlessOf, lowest}
 use Rattle.floats.specs.Floats.{isFinite}
 use Rattle.masks.specs.Masks.{isAxis, isFree}
-use Rattle.topology.specs.Tables.{allBelow}
 use Rattle.planar.specs.Rotation.{isBeyond}
 use Rattle.planar.specs.Poses.{rotationOf, isTurn, finitePoint, finitePose}
-use Rattle.topology.specs.Parents.{parentOf, marks}
+use Rattle.topology.specs.Parents.{marks, parentIn}
 use Rattle.arm.specs.declared.Arm.{Arm}
 use Rattle.arm.specs.declared.Edited.{Edited}
 use Rattle.arm.specs.declared.Link.{Link}
@@ -19,8 +19,8 @@ use Rattle.arm.specs.Arm.{parentsOf, maskAt}
 use Rattle.arm.specs.Edits.{withLinks}
 use Rattle.arm.specs.HandedIn.{armRefusal}
 use Rattle.kinematics.specs.State.{marked}
-use Rattle.working.specs.Outcome.{Outcome, unlessRefused, tablesFit, workedMarked}
-use Rattle.settled.specs.Above.{aboveFinite}
+use Rattle.full_working.specs.Outcome.{Outcome, unlessRefused, tablesFit, workedMarked}
+use Rattle.one_link.specs.Above.{aboveFinite}
 use Rattle.one_link_move.specs.declared.Change.{Change}
 use Rattle.one_link_move.specs.declared.Change.the-variants.{Coordinate, Frames, Centre}
 use Rattle.one_link_move.specs.declared.ChangeTests.{ChangeTests}
@@ -77,7 +77,7 @@ moveRefusal a t link change =
     ∷ unlessOf (ltb link (a .«link_count»)) 4
     ∷ unlessOf (axisFits change) 5
     ∷ unlessOf (axisFree (maskAt a link) change) 6
-    ∷ unlessOf (changeFinite change && aboveFinite link (parentOf (parentsOf a) link) t) 7
+    ∷ unlessOf (changeFinite change && aboveFinite link (parentIn (parentsOf a) link) t) 7
     ∷ unlessOf (turnsFit change) 8
     ∷ unlessOf (angleWithin change) 9
     ∷ armRefusal a
@@ -85,7 +85,7 @@ moveRefusal a t link change =
 
 -- link j is not a later one that has it for a parent
 abbrev pub noChild : List ℕ → ℕ → ℕ → Bool
-noChild ps link j = leb j link || not (eqb (parentOf ps j) link)
+noChild ps link j = leb j link || not (eqb (parentIn ps j) link)
 
 -- no link is below it
 abbrev pub leaf : List ℕ → ℕ → Bool

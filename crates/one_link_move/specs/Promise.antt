@@ -2,20 +2,20 @@
 use Prim.Native.Nat.{ℕ, _<_}
 use mathlib.Core.List.{List}
 use lib.Ieee.{Float}
+use Rattle.arm.specs.Sized.{Sized}
+use Rattle.topology.specs.Parents.{parentIn}
 use Rattle.topology.specs.Above.{AtOrAbove}
-use Rattle.topology.specs.Parents.{parentOf}
 use Rattle.arm.specs.declared.Arm.{Arm}
 use Rattle.arm.specs.Arm.{parentsOf}
-use Rattle.working.specs.Full.{Settled}
-use Rattle.arm.specs.Agree.{Sized}
-use Rattle.settled.specs.Promise.{Right}
+use Rattle.full_working.specs.Full.{Settled}
+use Rattle.one_link.specs.Promise.{Right}
 use Rattle.one_link_move.specs.declared.Change.{Change}
 use Rattle.one_link_move.specs.Change.{movedInputs}
 use Rattle.one_link_move.specs.Move.{moveRefusal, linkMoved}
 
 -- link j counts, and is the moved link or below it, by the parents
 abbrev pub AtOrBelow : Arm → ℕ → ℕ → Type 0
-AtOrBelow a link j = (j < a .«link_count») × AtOrAbove (parentOf (parentsOf a)) link j
+AtOrBelow a link j = (j < a .«link_count») × AtOrAbove (parentIn (parentsOf a)) link j
 
 abbrev pub MoveRight : Type 0
 MoveRight = (a : Arm) (t : List Float) → Sized a → Settled a t → (link : ℕ) (change : Change)

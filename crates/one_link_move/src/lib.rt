@@ -6,8 +6,8 @@ ghost use Prim.Native.Nat.{min};
 ghost use lib.ListN.{take};
 ghost use Rattle.limits.specs.Limits.{linkLimit};
 ghost use Rattle.arm.specs.HandedIn.{handedIn};
-ghost use Rattle.topology.specs.Parents.{parentOf, marks};
-ghost use Rattle.working.specs.Outcome.{out};
+ghost use Rattle.topology.specs.Parents.{marks, parentIn};
+ghost use Rattle.full_working.specs.Outcome.{out};
 ghost use Rattle.one_link_move.specs.Change.{coordinateSet, changed};
 ghost use Rattle.one_link_move.specs.Move.{testsOf, moveRefusal, leaf, answered, linkMoved};
 use arm::Arm;
@@ -37,9 +37,9 @@ use planar::rotation_at;
 use planar::rotation_of;
 use refusal::lower;
 use refusal::unless;
-use settled::is_finite_above;
+use one_link::is_finite_above;
 use topology::at_or_below;
-use working::tables_fit;
+use full_working::tables_fit;
 
 // What a move sets.
 pub enum Change {
@@ -98,7 +98,7 @@ fn change_tests(locked: u8, change: Change) -> ChangeTests
 // ---- What it refuses
 
 fn parent_among(parents: [u8; LINKS], count: usize, link: usize) -> u8
-    ensures { λ r. ⌜ r ≡ parentOf (take (min count linkLimit) parents) link ⌝ }
+    ensures { λ r. ⌜ r ≡ parentIn (take (min count linkLimit) parents) link ⌝ }
 {
     if link < live_links(count) {
         parents[link]

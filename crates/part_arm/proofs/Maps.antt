@@ -4,8 +4,8 @@ use mathlib.Core.Path.{_≡_, sym}
 use mathlib.Core.List.{List}
 use native.Mathlib.Omega.{arith}
 use lib.ListN.{length, getD, List·getD-eq-default}
+use Rattle.lists.proofs.Lists.{any-default}
 use Rattle.limits.specs.Limits.{linkLimit}
-use Rattle.floats.proofs.Rows.{any-default}
 use Rattle.topology.specs.Split.{gone}
 use Rattle.part_arm.specs.Places.{partIn, numberIn}
 

@@ -8,6 +8,8 @@ use lib.ListN.{length, drop, getD, set, length-drop}
 use borrow.Author.Tests.{lt-leb}
 use lib.Seq.{length-take-le}
 use lib.Ieee.{Float}
+use Rattle.lists.proofs.Gathered.{Laid, chosen-le, laid-as, laid-skip, laid-one, laid-part}
+use Rattle.lists.specs.Lists.{part, withPart}
 use Rattle.limits.specs.Limits.{linkLimit, couplingLimit, dofLimit, tableSize}
 use Rattle.masks.specs.Masks.{dofsOf}
 use Rattle.arm.specs.declared.Link.{Link}
@@ -15,18 +17,15 @@ use Rattle.arm.specs.declared.Coupling.{Coupling}
 use Rattle.arm.specs.declared.Row.{Row}
 use Rattle.arm.specs.declared.Arm.{Arm}
 use Rattle.arm.specs.declared.Edited.{Edited}
-use Rattle.arm.specs.Arm.{liveLinks, maskAt, startAt}
+use Rattle.arm.specs.Arm.{liveLinks, maskAt, startAt, linkAt, couplingAt}
 use Rattle.arm.proofs.Live.{dof-count-le, mask-there, start-more, start-within}
-use Rattle.kinematics.specs.Blocks.{part, withPart}
-use Rattle.kinematics.specs.State.{linkAt}
-use Rattle.working.specs.Outcome.{Outcome, out}
-use Rattle.working.specs.Empty.{blankRow, emptyArm, emptied}
+use Rattle.full_working.specs.Outcome.{Outcome, out}
+use Rattle.full_working.specs.Empty.{blankRow, emptyArm, emptied}
 use Rattle.part_arm.specs.declared.LinksOut.{LinksOut}
 use Rattle.part_arm.specs.declared.CouplingsOut.{CouplingsOut}
 use Rattle.part_arm.specs.Places.{Places, goesOn}
-use Rattle.part_arm.specs.Part.{newLink, partLinks, ownEntries, partEntries, partRow, couplingAt, couplingStays, newCoupling, partCouplings, partArm}
+use Rattle.part_arm.specs.Part.{newLink, partLinks, ownEntries, partEntries, partRow, couplingStays, newCoupling, partCouplings, partArm}
 use Rattle.part_arm.specs.Coded.{linksOut, couplingsOut}
-use Rattle.part_arm.proofs.Laid.{Laid, chosen-le, laid-as, laid-skip, laid-one, laid-part}
 
 -- ---- blank places
 

@@ -1,15 +1,15 @@
 -- The links and the couplings of a part with their counts, as a pass over the arm leaves them.
 use lib.ListN.{length}
+use Rattle.lists.specs.Lists.{laid}
 use Rattle.arm.specs.declared.Arm.{Arm}
-use Rattle.working.specs.Empty.{emptyArm}
+use Rattle.full_working.specs.Empty.{emptyArm}
 use Rattle.part_arm.specs.declared.LinksOut.{LinksOut}
 use Rattle.part_arm.specs.declared.CouplingsOut.{CouplingsOut}
-use Rattle.part_arm.specs.Gathered.{laidOver}
 use Rattle.part_arm.specs.Places.{Places}
 use Rattle.part_arm.specs.Part.{partLinks, partCouplings}
 
 unfoldable pub linksOut : Places → Arm → LinksOut
-linksOut p a = record { count = length (partLinks p a); links = laidOver (partLinks p a) (emptyArm .links) }
+linksOut p a = record { count = length (partLinks p a); links = laid (partLinks p a) (emptyArm .links) }
 
 unfoldable pub couplingsOut : Places → Arm → CouplingsOut
-couplingsOut p a = record { count = length (partCouplings p a); couplings = laidOver (partCouplings p a) (emptyArm .couplings) }
+couplingsOut p a = record { count = length (partCouplings p a); couplings = laid (partCouplings p a) (emptyArm .couplings) }

@@ -4,6 +4,8 @@ use mathlib.Core.Bool.{Bool, cond, _&&_}
 use mathlib.Core.List.{List, [], map}
 use lib.ListN.{length, take, drop, getD}
 use lib.Ieee.{Float, nan}
+use Rattle.lists.specs.Lists.{laid}
+use Rattle.lists.specs.Numbers.{gathered, chosen}
 use Rattle.limits.specs.Limits.{couplingLimit}
 use Rattle.masks.specs.Masks.{dofsOf}
 use Rattle.multibody_joint.specs.declared.Joint.{Joint}
@@ -12,10 +14,8 @@ use Rattle.arm.specs.declared.Link.{Link}
 use Rattle.arm.specs.declared.Coupling.{Coupling}
 use Rattle.arm.specs.declared.Row.{Row}
 use Rattle.arm.specs.declared.Arm.{Arm}
-use Rattle.arm.specs.Arm.{liveLinks, maskAt, startAt}
-use Rattle.kinematics.specs.State.{linkAt}
-use Rattle.working.specs.Empty.{blankRow, emptyArm}
-use Rattle.part_arm.specs.Gathered.{gathered, chosen, laidOver}
+use Rattle.arm.specs.Arm.{liveLinks, maskAt, startAt, linkAt}
+use Rattle.full_working.specs.Empty.{blankRow, emptyArm}
 use Rattle.part_arm.specs.Places.{Places, goesOn}
 
 -- ---- links
@@ -53,7 +53,7 @@ unfoldable pub partEntries : Places → Arm → List Float → List Float
 partEntries p a entries = gathered (liveLinks a) (λ j. cond (goesOn p j) (ownEntries a entries j) [])
 
 unfoldable pub partRow : Places → Arm → Row → Row
-partRow p a row = record { entries = laidOver (partEntries p a (row .entries)) (blankRow .entries) }
+partRow p a row = record { entries = laid (partEntries p a (row .entries)) (blankRow .entries) }
 
 -- ---- couplings
 
@@ -91,7 +91,7 @@ unfoldable pub partArm : Places → Arm → Arm
 partArm p a = record {
   «link_count» = length (partLinks p a);
   «coupling_count» = length (partCouplings p a);
-  links = laidOver (partLinks p a) (emptyArm .links);
-  couplings = laidOver (partCouplings p a) (emptyArm .couplings);
+  links = laid (partLinks p a) (emptyArm .links);
+  couplings = laid (partCouplings p a) (emptyArm .couplings);
   rows = map (partRow p a) (a .rows);
 }

@@ -3,9 +3,9 @@ ghost use mathlib.Core.Path.{_≡_};
 ghost use mathlib.Core.List.{map};
 ghost use Prim.Native.Nat.{min, _+_, _≤_};
 ghost use lib.ListN.{length};
+ghost use Rattle.lists.specs.Lists.{part, withPart};
 ghost use Rattle.limits.specs.Limits.{couplingLimit};
-ghost use Rattle.kinematics.specs.Blocks.{part, withPart};
-ghost use Rattle.working.specs.Empty.{emptyArm};
+ghost use Rattle.full_working.specs.Empty.{emptyArm};
 ghost use Rattle.part_arm.specs.Places.{partIn, numberIn, hereIn, headIn, placesIn, goesOn};
 ghost use Rattle.part_arm.specs.Part.{newLink, couplingStays, newCoupling, partRow, partArm};
 ghost use Rattle.part_arm.specs.Coded.{linksOut, couplingsOut};
@@ -20,7 +20,7 @@ use limits::DOFS;
 use limits::LINKS;
 use masks::dofs;
 use multibody_joint::fixed;
-use working::empty;
+use full_working::empty;
 
 // Bytes of a split map: part and number of each link.
 pub const MAP: usize = 2 * LINKS;

@@ -10,9 +10,11 @@ use lib.Dec.{leb}
 use lib.ListN.{length, take, drop, length-append, length-take}
 use lib.Seq.{take-at}
 use lib.Ieee.{Float}
-use Rattle.masks.specs.declared.Count.{Count}
+use Rattle.lists.specs.Lists.{laid}
+use Rattle.refusal.specs.Counted.{Outcome, countedOf, filled}
+use Rattle.refusal.specs.declared.Counted.{Counted}
 use Rattle.masks.specs.Masks.{dofsOf, dampingRow}
-use Rattle.masks.specs.Answers.{Outcome, counted, laid, filled, dampingRefusal, dampingAnswer}
+use Rattle.masks.specs.Answers.{dampingRefusal, dampingAnswer}
 use Rattle.masks.specs.Answers as masks
 use Rattle.masks.proofs.Laws.{dofs-le}
 use Rattle.masks.proofs.Fills.{length-damping}
@@ -40,9 +42,9 @@ three-long k room x e =
     let least : min (k - 0) 3 ≡ min room 3 = omega arith in
     length-take (k - 0) (x ∷ x ∷ x ∷ []) ∙ least
 
-module _ (n : ℕ) (row old part : List Float) (a : Count) (long : length row ≡ n) where
+module _ (n : ℕ) (row old part : List Float) (a : Counted) (long : length row ≡ n) where
   count-within : (k : ℕ) → masks.out a part ≡ filled k n row old → (k ≡ 0 → n ≤ length old) → (a .count ≤ length old) × (a .count ≤ length part)
-  unfolding filled counted laid
+  unfolding filled countedOf
   count-within zero e h =
       let memory : part ≡ row ++ drop (length row) old = ap (λ (o : Outcome Float). o .memory) e in
       let whole : length part ≡ length row + length (drop (length row) old) = ap length memory ∙ length-append row _ in
@@ -52,19 +54,19 @@ module _ (n : ℕ) (row old part : List Float) (a : Count) (long : length row �
   -- the floats that were laid over a row are written; a refusal writes none
   as-bytes : (k : ℕ) → masks.out a part ≡ filled k n row old → (rest : List Float) (lent bytes : List ℕ)
       → bytes ≡ laid (bytesOf (take (a .count) (part ++ rest))) lent → masks.out a bytes ≡ filled k n (bytesOf row) lent
-  unfolding filled counted laid bytesOf
+  unfolding filled countedOf bytesOf
   as-bytes zero e rest lent bytes q =
-      let answer : a ≡ counted 0 n = ap (λ (o : Outcome Float). o .answer) e in
+      let answer : a ≡ countedOf 0 n = ap (λ (o : Outcome Float). o .answer) e in
       let memory : part ≡ row ++ drop (length row) old = ap (λ (o : Outcome Float). o .memory) e in
       let whole : take n (part ++ rest) ≡ row =
       ap (λ (p : List Float). take n (p ++ rest)) memory ∙ ap (take n) (append-assoc row _ rest) ∙ take-at row _ n long in
       rw (q, answer, whole)
   as-bytes (suc k) e rest lent bytes q =
-      let answer : a ≡ counted (suc k) n = ap (λ (o : Outcome Float). o .answer) e in
+      let answer : a ≡ countedOf (suc k) n = ap (λ (o : Outcome Float). o .answer) e in
       rw (q, answer)
 
 -- the call over a row of floats, with room for as many as the lent bytes have, and three at most
-module _ (mask : ℕ) (lent : List ℕ) (old part rest : List Float) (a : Count) (room : length old ≡ min (length lent / 4) 3)
+module _ (mask : ℕ) (lent : List ℕ) (old part rest : List Float) (a : Counted) (room : length old ≡ min (length lent / 4) 3)
     (e : masks.out a part ≡ dampingAnswer mask old) where
   fits : (a .count ≤ length old) × (a .count ≤ length part)
   unfolding dampingAnswer

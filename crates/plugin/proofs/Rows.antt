@@ -7,11 +7,11 @@ use native.Mathlib.Numerals.{add-one}
 use lib.ListN.{length, take, drop, getD, length-append}
 use lib.Seq.{take-suc, take-at, drop-at, drop-drop, take-all, length-take-le}
 use lib.Ieee.{Float, nan, binary32, toBits}
+use Rattle.lists.specs.Lists.{laid}
 use Rattle.numerals.specs.Written.{Written as Writing, written as writing, bytesWritten}
 use Rattle.numerals.specs.Bytes.{littleEndian}
 use Rattle.numerals.proofs.Storing.{room}
 use Rattle.numerals.proofs.Bytes.{as-wide}
-use Rattle.masks.specs.Answers.{laid}
 use Rattle.plugin.specs.Bytes.{bytesOf}
 
 pub length-bytes : (xs : List Float) → length (bytesOf xs) ≡ 4 * length xs
@@ -31,7 +31,6 @@ bytes-snoc xs x = bytes-append xs (x ∷ []) ∙ ap (λ (r : List ℕ). bytesOf 
 -- bytes written behind those that are laid are laid with them
 laid-run : (p v old l new : List ℕ) (at : ℕ) → l ≡ laid p old → length p ≡ at → new ≡ take at l ++ v ++ drop (at + length v) l
     → new ≡ laid (p ++ v) old
-unfolding laid
 laid-run p v old l new at e n q =
     let front : take at l ≡ p = ap (take at) e ∙ take-at p _ at n in
     let behind : drop at l ≡ drop at old = ap (drop at) e ∙ drop-at p _ at n ∙ ap (λ (k : ℕ). drop k old) n in
@@ -45,7 +44,7 @@ pub record Written (row : List Float) (old : List ℕ) (i : ℕ) (l : List ℕ) 
   pub front : l ≡ laid (bytesOf (take i row)) old
 
 pub written-none : (row : List Float) (old : List ℕ) → Written row old 0 old
-unfolding laid bytesOf
+unfolding bytesOf
 written-none row old = record { same-length = refl; front = refl }
 
 module _ (row : List Float) (old : List ℕ) (i : ℕ) (l : List ℕ) (w : Written row old i l) (h : i < length row) where

@@ -3,9 +3,10 @@ use Prim.Native.Nat.{ℕ, _/_}
 use mathlib.Core.List.{List, [], _∷_, _++_}
 use lib.ListN.{length}
 use lib.Ieee.{Float, binary32, toBits}
+use Rattle.refusal.specs.Counted.{Outcome, filled}
 use Rattle.numerals.specs.Bytes.{littleEndian}
 use Rattle.masks.specs.Masks.{dofsOf, dampingRow}
-use Rattle.masks.specs.Answers.{Outcome, filled, dampingRefusal}
+use Rattle.masks.specs.Answers.{dampingRefusal}
 
 -- a row of f32 by its bits
 unfoldable pub bytesOf : List Float → List ℕ

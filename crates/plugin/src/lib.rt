@@ -3,9 +3,11 @@
 ghost use mathlib.Core.Path.{_≡_};
 ghost use Prim.Native.Nat.{_*_, _≤_};
 ghost use lib.ListN.{length};
+ghost use Rattle.lists.specs.Lists.{laid};
+ghost use Rattle.refusal.specs.Counted.{out, out as leaves};
 ghost use Rattle.topology.specs.declared.Split.the-variants.{Delete, Cut};
-ghost use Rattle.topology.specs.Answers.{out, splitAnswer};
-ghost use Rattle.masks.specs.Answers.{out as leaves, laid, dofsAnswer, startsAnswer, constraintsAnswer};
+ghost use Rattle.topology.specs.Answers.{splitAnswer};
+ghost use Rattle.masks.specs.Answers.{dofsAnswer, startsAnswer, constraintsAnswer};
 ghost use Rattle.plugin.specs.Bytes.{bytesOf, dampingBytes};
 use limits::fewer;
 use masks::Count;

@@ -1,6 +1,7 @@
 // Refusals: a number for each, where 0 is none. Several at once give the lowest.
 ghost use mathlib.Core.Path.{_≡_};
 ghost use Rattle.refusal.specs.Refusal.{unlessOf, lowerOf};
+ghost use Rattle.refusal.specs.Counted.{countedOf};
 
 // The refusal k, unless the test holds.
 pub fn unless(ok: bool, k: u8) -> u8
@@ -20,4 +21,21 @@ pub fn lower(a: u8, b: u8) -> u8
         return a;
     }
     if a < b { a } else { b }
+}
+
+// What a call that counts answers: a refusal and a zero count, or 0 and what was counted.
+#[repr(C)]
+pub struct Counted {
+    pub refusal: u8,
+    pub count: usize,
+}
+
+// The count, unless there is a refusal.
+pub fn answer_count(refusal: u8, count: usize) -> Counted
+    ensures { λ r. ⌜ r ≡ countedOf refusal count ⌝ }
+{
+    if refusal == 0 {
+        return Counted { refusal: 0, count };
+    }
+    Counted { refusal, count: 0 }
 }

@@ -4,15 +4,15 @@ use mathlib.Core.Path.{_≡_}
 use mathlib.Core.List.{List}
 use borrow.Author.Tests.{eq-eqb, ne-eqb}
 use lib.ListN.{set}
+use Rattle.arm.specs.Arm.{noLink, linkAt}
+use Rattle.lists.proofs.Modified.{set-modify}
 use Rattle.planar.specs.declared.Pose.{Pose}
 use Rattle.multibody_joint.specs.declared.Joint.{Joint}
 use Rattle.multibody_joint.specs.Joint.{freeJoint, fixedJoint, freePosSet}
 use Rattle.arm.specs.declared.Link.{Link}
 use Rattle.arm.specs.declared.Row.{Row}
 use Rattle.arm.specs.declared.Arm.{Arm}
-use Rattle.arm.proofs.Modified.{set-modify}
-use Rattle.kinematics.specs.State.{noLink, linkAt}
-use Rattle.working.proofs.Tests.{withParts}
+use Rattle.full_working.proofs.Tests.{withParts}
 use Rattle.root_change.specs.Root.{withFrame1, rootJoint, rootLink, rootRows, rootChanged}
 
 module _ (locked : ℕ) (p : Pose) (j : Joint) where

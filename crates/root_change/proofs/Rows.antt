@@ -7,12 +7,12 @@ use borrow.Author.Tests.{eq-eqb, ne-eqb}
 use lib.ListN.{length, take, drop, getD, set, replicate, length-drop, length-map, length-replicate}
 use lib.Seq.{take-all}
 use lib.Ieee.{Float}
+use Rattle.floats.proofs.Rows.{overlaid-front}
+use Rattle.lists.proofs.Lists.{filled-more, filled-all, map-at}
 use Rattle.limits.specs.Limits.{dofLimit}
 use Rattle.floats.specs.Floats.{zero32, overlaid}
 use Rattle.arm.specs.declared.Row.{Row}
 use Rattle.arm.specs.declared.Arm.{Arm}
-use Rattle.arm.proofs.Lists.{filled-more, filled-all, map-at}
-use Rattle.kinematics.proofs.Blocks.{copied-front}
 use Rattle.root_change.specs.Root.{widened, narrowed, rootRow, rootMask, rootRows}
 
 -- ---- one row
@@ -42,7 +42,7 @@ module _ (row : Row) (whole : length (row .entries) ≡ dofLimit) (z : List Floa
   is-narrowed e =
       let l : length (drop 3 (row .entries)) ≡ dofLimit - 3 = length-drop 3 (row .entries) ∙ ap (λ (n : ℕ). n - 3) whole in
       let p : overlaid zeros (take (dofLimit - 3) (drop 3 (row .entries))) ≡ overlaid zeros (drop 3 (row .entries)) = ap (overlaid zeros) (take-all (dofLimit - 3) (drop 3 (row .entries)) (omega arith)) in
-      ap (λ (l : List Float). record { entries = l }) (e ∙ p ∙ copied-front (dofLimit - 3) zeros (drop 3 (row .entries)) l (omega (arith, length-replicate dofLimit zero32)))
+      ap (λ (l : List Float). record { entries = l }) (e ∙ p ∙ overlaid-front (dofLimit - 3) zeros (drop 3 (row .entries)) l (omega (arith, length-replicate dofLimit zero32)))
 
 -- ---- by the types
 

@@ -11,12 +11,16 @@ use lib.Dec.{eqb, ltb}
 use lib.ListN.{length, take, drop, getD, replicate}
 use lib.Seq.{take-take}
 use lib.Ieee.{Float, nan, ofBits, lt}
+use Rattle.lists.proofs.Modified.{length-modify, modify-same, modify-other}
+use Rattle.lists.proofs.Every.{every-map, every-at, every-of, every-take}
+use Rattle.lists.specs.Tests.{every}
+use Rattle.lists.specs.Lists.{modify}
+use Rattle.lists.proofs.Bools.{both-hold, both}
 use Rattle.limits.specs.Limits.{linkLimit, dofLimit}
 use Rattle.refusal.specs.Refusal.{unlessOf}
 use Rattle.refusal.proofs.Laws.{is-lowest}
-use Rattle.refusal.proofs.Tests.{both-hold, both}
 use Rattle.floats.specs.Floats.{zero32, isFinite, allFinite}
-use Rattle.floats.proofs.FiniteRows.{zero-finite, finite-take}
+use Rattle.floats.proofs.FiniteRows.{zero-finite}
 use Rattle.masks.specs.Masks.{dofsOf}
 use Rattle.masks.specs.Starts.{totalOf}
 use Rattle.masks.proofs.Laws.{fixed-dofs, free-dofs}
@@ -28,16 +32,12 @@ use Rattle.multibody_joint.specs.Joint.{freeJoint, fixedJoint, freePosSet}
 use Rattle.arm.specs.declared.Link.{Link}
 use Rattle.arm.specs.declared.Row.{Row}
 use Rattle.arm.specs.declared.Arm.{Arm}
-use Rattle.arm.specs.Arm.{liveLinks, linksOf, couplingsOf, tagOf, parentOf, lockedOf, masksOf, dofCountOf, entriesTo, rowsOf}
-use Rattle.arm.specs.Edits.{modify}
-use Rattle.arm.specs.HandedIn.{every, tagsUnique, linkNumbersFit, jointMasksFit, linkMasksFit, rootMaskFits, rootFits, couplingAxesFit, masksAndAxesFit, jointFinite, linkFinite, couplingFinite, rowsFinite, floatsFinite, angleFits, linkAngleFits, anglesFit, armRefusal}
-use Rattle.arm.proofs.Every.{every-map, every-at, every-of}
+use Rattle.arm.specs.Arm.{liveLinks, linksOf, couplingsOf, tagOf, parentOf, lockedOf, masksOf, dofCountOf, entriesTo, rowsOf, linkAt, noLink}
+use Rattle.arm.specs.HandedIn.{tagsUnique, linkNumbersFit, jointMasksFit, linkMasksFit, rootMaskFits, rootFits, couplingAxesFit, masksAndAxesFit, jointFinite, linkFinite, couplingFinite, rowsFinite, floatsFinite, angleFits, linkAngleFits, anglesFit, armRefusal}
 use Rattle.arm.proofs.Live.{dof-count-le}
-use Rattle.arm.proofs.Modified.{length-modify, modify-same, modify-other}
-use Rattle.kinematics.specs.State.{linkAt, noLink}
-use Rattle.working.specs.Outcome.{tablesFit}
-use Rattle.working.proofs.Tests.{Passes, holds-in, passes, not-refused, link-passes, links-pass, tags-stay, numbers-stay}
-use Rattle.working.proofs.Again.{call-settles, call-keeps, call-joint}
+use Rattle.full_working.specs.Outcome.{tablesFit}
+use Rattle.full_working.proofs.Tests.{Passes, holds-in, passes, not-refused, link-passes, links-pass, tags-stay, numbers-stay}
+use Rattle.full_working.proofs.Again.{call-settles, call-keeps, call-joint}
 use Rattle.root_change.specs.Root.{isRootMask, withFrame1, rootJoint, rootLink, widened, narrowed, rootRow, rootMask, rootRows, rootChanged, rootRefusal, changedRoot}
 use Rattle.root_change.specs.Promises.{RootSettles, RootKeeps}
 
@@ -126,13 +126,13 @@ module _ (locked : ℕ) (p : Pose) (j : Joint) where
 
 append-finite : (n : ℕ) (xs ys : List Float) → allFinite (take n xs) ≡ true → allFinite ys ≡ true → allFinite (take n (xs ++ ys)) ≡ true
 append-finite zero xs ys e f = refl
-append-finite (suc n) [] ys e f = finite-take (suc n) ys f
+append-finite (suc n) [] ys e f = every-take isFinite (suc n) ys f
 append-finite (suc n) (x ∷ xs) ys e f = let q = both-hold (isFinite x) (allFinite (take n xs)) e in both (q .0) (append-finite n xs ys (q .1) f)
 
 drop-finite : (n : ℕ) (xs : List Float) → allFinite (take (suc (suc (suc n))) xs) ≡ true → allFinite (take n (drop 3 xs)) ≡ true
-drop-finite n [] e = finite-take n [] refl
-drop-finite n (x ∷ []) e = finite-take n [] refl
-drop-finite n (x ∷ y ∷ []) e = finite-take n [] refl
+drop-finite n [] e = every-take isFinite n [] refl
+drop-finite n (x ∷ []) e = every-take isFinite n [] refl
+drop-finite n (x ∷ y ∷ []) e = every-take isFinite n [] refl
 drop-finite n (x ∷ y ∷ z ∷ xs) e = both-hold (isFinite z) _ (both-hold (isFinite y) _ (both-hold (isFinite x) _ e .1) .1) .1
 
 zeros-finite : allFinite (replicate 3 zero32) ≡ true

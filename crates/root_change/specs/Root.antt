@@ -5,6 +5,8 @@ use mathlib.Core.List.{List, [], _∷_, _++_, map}
 use lib.Dec.{eqb, ltb}
 use lib.ListN.{take, drop, replicate}
 use lib.Ieee.{Float}
+use Rattle.arm.specs.Arm.{linkAt}
+use Rattle.lists.specs.Lists.{modify}
 use Rattle.limits.specs.Limits.{dofLimit}
 use Rattle.refusal.specs.Refusal.{unlessOf, lowest}
 use Rattle.floats.specs.Floats.{zero32}
@@ -15,10 +17,8 @@ use Rattle.multibody_joint.specs.Joint.{freeJoint, fixedJoint, freePosSet}
 use Rattle.arm.specs.declared.Link.{Link}
 use Rattle.arm.specs.declared.Row.{Row}
 use Rattle.arm.specs.declared.Arm.{Arm}
-use Rattle.arm.specs.Edits.{modify}
 use Rattle.arm.specs.HandedIn.{armRefusal}
-use Rattle.kinematics.specs.State.{linkAt}
-use Rattle.working.specs.Outcome.{Outcome, unlessRefused, tablesFit, workedAll}
+use Rattle.full_working.specs.Outcome.{Outcome, unlessRefused, tablesFit, workedAll}
 
 -- ---- the root's joint
 

@@ -1,6 +1,6 @@
 // The root change of an arm (`update_root_type`): the root is fixed or free at a pose, then the arm is worked out in full.
 ghost use mathlib.Core.Path.{_≡_};
-ghost use Rattle.working.specs.Outcome.{out};
+ghost use Rattle.full_working.specs.Outcome.{out};
 ghost use Rattle.root_change.specs.Root.{rootJoint, rootLink, widened, narrowed, rootRow, rootRows, rootChanged, rootRefusal, changedRoot};
 use arm::Arm;
 use arm::Edited;
@@ -19,8 +19,8 @@ use planar::is_turn;
 use planar::rotation_of;
 use refusal::lower;
 use refusal::unless;
-use working::tables_fit;
-use working::work_all;
+use full_working::tables_fit;
+use full_working::work_all;
 
 // ---- The root's joint
 

@@ -3,7 +3,7 @@ use mathlib.Core.Path.{_≡_, refl}
 use mathlib.Core.Bool.{true}
 use mathlib.Core.List.{List, [], _∷_}
 use lib.Ieee.{Float, binary32, mul, div}
-use Rattle.refusal.proofs.Tests.{both}
+use Rattle.lists.proofs.Bools.{both}
 use Rattle.floats.specs.Floats.{isFinite, allFinite}
 use Rattle.floats.proofs.Sticky.{finite-taken, finite-div}
 use Rattle.elimination.specs.Elimination.{less}

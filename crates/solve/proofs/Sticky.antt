@@ -5,8 +5,9 @@ use mathlib.Core.List.{List, [], _∷_}
 use Prim.Native.Nat.{ℕ, zero, suc, _+_}
 use lib.ListN.{drop, getD, set}
 use lib.Ieee.{Float, nan, binary32, mul, div}
+use Rattle.lists.proofs.Every.{every-before-set}
 use Rattle.floats.specs.Floats.{isFinite, allFinite}
-use Rattle.floats.proofs.Sticky.{finite-sub, finite-div, finite-set}
+use Rattle.floats.proofs.Sticky.{finite-sub, finite-div}
 use Rattle.elimination.specs.Elimination.{row, entry, less}
 use Rattle.solve.specs.Solve.{lessProducts, backward}
 
@@ -21,4 +22,4 @@ finite-backward n a zero x h = h
 finite-backward n a (suc i) x h =
     let v = lessProducts (getD x i nan) (drop (i + 1) (row n i a)) (drop (i + 1) x) in
     let q = div binary32 v (entry n i i a) in
-    finite-set i x q (λ f. finite-start (getD x i nan) (drop (i + 1) (row n i a)) (drop (i + 1) x) (finite-div v (entry n i i a) f)) (finite-backward n a i (set x i q) h)
+    every-before-set isFinite nan i x q (λ f. finite-start (getD x i nan) (drop (i + 1) (row n i a)) (drop (i + 1) x) (finite-div v (entry n i i a) f)) (finite-backward n a i (set x i q) h)

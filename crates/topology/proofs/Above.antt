@@ -10,7 +10,7 @@ use lib.ListN.{length, getD, length-append, List·getD-append}
 use lib.Seq.{getD-at}
 use lib.Dec.{eqb}
 use Rattle.topology.specs.Above.{AtOrAbove, itself, above}
-use Rattle.topology.specs.Parents.{parentOf, parentsFit, branch, atOrBelow}
+use Rattle.topology.specs.Parents.{parentsFit, branch, atOrBelow, parentIn}
 use Rattle.topology.specs.Words.{FromRoot}
 use Rattle.topology.proofs.Fitting.{earlier}
 use Rattle.topology.proofs.Branch.{branch-alone, branch-more, mark-alone, mark-more}
@@ -47,19 +47,19 @@ longer par b j r = record {
 module _ (ps : List ℕ) (fit : parentsFit ps ≡ true) where
   -- ---- marks
 
-  pub marked-above : (m i j : ℕ) → j < m → j < length ps → atOrBelow ps i j ≡ true → AtOrAbove (parentOf ps) i j
+  pub marked-above : (m i j : ℕ) → j < m → j < length ps → atOrBelow ps i j ≡ true → AtOrAbove (parentIn ps) i j
   marked-above zero i j l h t = absurd (omega arith)
-  marked-above (suc m) i j l h t = elim (decLt (parentOf ps j) j) [
-    | yes p ↦ go (eqb j i) refl p (sym (mark-more ps i j h p) ∙ t) (marked-above m i (parentOf ps j) (omega arith) (omega arith))
-    | no p ↦ subst (λ (k : ℕ). AtOrAbove (parentOf ps) i k) (sym (eqb-true j i (sym (mark-alone ps i j h (omega arith)) ∙ t))) itself
+  marked-above (suc m) i j l h t = elim (decLt (parentIn ps j) j) [
+    | yes p ↦ go (eqb j i) refl p (sym (mark-more ps i j h p) ∙ t) (marked-above m i (parentIn ps j) (omega arith) (omega arith))
+    | no p ↦ subst (λ (k : ℕ). AtOrAbove (parentIn ps) i k) (sym (eqb-true j i (sym (mark-alone ps i j h (omega arith)) ∙ t))) itself
   ]
     where
-      go : (b : Bool) → eqb j i ≡ b → parentOf ps j < j → (b || atOrBelow ps i (parentOf ps j)) ≡ true → (atOrBelow ps i (parentOf ps j) ≡ true → AtOrAbove (parentOf ps) i (parentOf ps j)) → AtOrAbove (parentOf ps) i j
-      go true e p q ih = subst (λ (k : ℕ). AtOrAbove (parentOf ps) i k) (sym (eqb-true j i e)) itself
+      go : (b : Bool) → eqb j i ≡ b → parentIn ps j < j → (b || atOrBelow ps i (parentIn ps j)) ≡ true → (atOrBelow ps i (parentIn ps j) ≡ true → AtOrAbove (parentIn ps) i (parentIn ps j)) → AtOrAbove (parentIn ps) i j
+      go true e p q ih = subst (λ (k : ℕ). AtOrAbove (parentIn ps) i k) (sym (eqb-true j i e)) itself
       go false e p q ih = above {j = j} (omega arith) (ih q)
 
-  pub above-marked : {i j : ℕ} → AtOrAbove (parentOf ps) i j → j < length ps → atOrBelow ps i j ≡ true
-  above-marked {i} itself h = elim (decLt (parentOf ps i) i) [
+  pub above-marked : {i j : ℕ} → AtOrAbove (parentIn ps) i j → j < length ps → atOrBelow ps i j ≡ true
+  above-marked {i} itself h = elim (decLt (parentIn ps i) i) [
     | yes p ↦ mark-more ps i i h p ∙ rw (eq-eqb i i refl)
     | no p ↦ mark-alone ps i i h (omega arith) ∙ eq-eqb i i refl
   ]
@@ -69,7 +69,7 @@ module _ (ps : List ℕ) (fit : parentsFit ps ≡ true) where
 
   -- ---- branches
 
-  pub from-root : (m j : ℕ) → j < m → j < length ps → FromRoot (parentOf ps) (branch ps j) j
+  pub from-root : (m j : ℕ) → j < m → j < length ps → FromRoot (parentIn ps) (branch ps j) j
   from-root zero j l h = absurd (omega arith)
   from-root (suc m) zero l h = rw (branch-alone ps 0 h (omega arith)) (record {
     starts = ([], refl);
@@ -78,4 +78,4 @@ module _ (ps : List ℕ) (fit : parentsFit ps ≡ true) where
   })
   from-root (suc m) (suc j) l h =
       let p = earlier ps fit (suc j) (omega arith) h in
-      rw (branch-more ps (suc j) h p) (longer (parentOf ps) (branch ps (parentOf ps (suc j))) (suc j) (from-root m (parentOf ps (suc j)) (omega arith) (omega arith)))
+      rw (branch-more ps (suc j) h p) (longer (parentIn ps) (branch ps (parentIn ps (suc j))) (suc j) (from-root m (parentIn ps (suc j)) (omega arith) (omega arith)))

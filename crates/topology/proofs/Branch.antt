@@ -6,27 +6,27 @@ use mathlib.Core.List.{List, [], _∷_, _++_}
 use native.Mathlib.Omega.{arith}
 use borrow.Author.Tests.{ltb-true, lt-ltb, le-ltb}
 use lib.ListN.{length, replicate, length-append}
+use Rattle.lists.proofs.Numbers.{Filled, filled-all, stands-snoc}
+use Rattle.lists.specs.Numbers.{standsIn}
 use Rattle.limits.specs.Limits.{linkLimit}
 use lib.Dec.{eqb, ltb}
-use Rattle.topology.specs.Tables.{standsIn}
-use Rattle.topology.specs.Parents.{parentOf, wayTo, branch, atOrBelow, marks}
-use Rattle.topology.proofs.Tables.{Filled, filled-all, stands-snoc}
+use Rattle.topology.specs.Parents.{wayTo, branch, atOrBelow, marks, parentIn}
 
 module _ (ps : List ℕ) where
-  alone : (k j : ℕ) → j ≤ parentOf ps j → wayTo ps k j ≡ j ∷ []
+  alone : (k j : ℕ) → j ≤ parentIn ps j → wayTo ps k j ≡ j ∷ []
   unfolding wayTo
   alone zero j h = refl
-  alone (suc k) j h = rw (le-ltb (parentOf ps j) j h)
+  alone (suc k) j h = rw (le-ltb (parentIn ps j) j h)
 
   same : (k l j : ℕ) → j ≤ k → j ≤ l → wayTo ps k j ≡ wayTo ps l j
   unfolding wayTo
   same zero l j h g = sym (alone l j (omega arith))
   same (suc k) zero j h g = alone (suc k) j (omega arith)
-  same (suc k) (suc l) j h g = go (ltb (parentOf ps j) j) refl (λ p. same k l (parentOf ps j) (omega arith) (omega arith))
+  same (suc k) (suc l) j h g = go (ltb (parentIn ps j) j) refl (λ p. same k l (parentIn ps j) (omega arith) (omega arith))
     where
-      go : (b : Bool) → ltb (parentOf ps j) j ≡ b → (parentOf ps j < j → wayTo ps k (parentOf ps j) ≡ wayTo ps l (parentOf ps j))
-          → cond b (wayTo ps k (parentOf ps j)) [] ++ (j ∷ []) ≡ cond b (wayTo ps l (parentOf ps j)) [] ++ (j ∷ [])
-      go true e ih = rw (ih (ltb-true (parentOf ps j) j e))
+      go : (b : Bool) → ltb (parentIn ps j) j ≡ b → (parentIn ps j < j → wayTo ps k (parentIn ps j) ≡ wayTo ps l (parentIn ps j))
+          → cond b (wayTo ps k (parentIn ps j)) [] ++ (j ∷ []) ≡ cond b (wayTo ps l (parentIn ps j)) [] ++ (j ∷ [])
+      go true e ih = rw (ih (ltb-true (parentIn ps j) j e))
       go false e ih = refl
 
   -- a number that isn't below the count has no branch
@@ -35,18 +35,18 @@ module _ (ps : List ℕ) where
   branch-none j h = rw (le-ltb j (length ps) h)
 
   -- a link with no earlier parent is its own branch
-  pub branch-alone : (j : ℕ) → j < length ps → j ≤ parentOf ps j → branch ps j ≡ j ∷ []
+  pub branch-alone : (j : ℕ) → j < length ps → j ≤ parentIn ps j → branch ps j ≡ j ∷ []
   unfolding branch
   branch-alone j h g = rw (lt-ltb j (length ps) h) (alone j j g)
 
   -- any other link's is its parent's with the link behind it
-  pub branch-more : (j : ℕ) → j < length ps → parentOf ps j < j → branch ps j ≡ branch ps (parentOf ps j) ++ (j ∷ [])
+  pub branch-more : (j : ℕ) → j < length ps → parentIn ps j < j → branch ps j ≡ branch ps (parentIn ps j) ++ (j ∷ [])
   unfolding branch wayTo
   branch-more zero h g = absurd (omega arith)
   branch-more (suc j) h g =
-      rw (lt-ltb (suc j) (length ps) h, lt-ltb (parentOf ps (suc j)) (length ps) (omega arith), lt-ltb (parentOf ps (suc j)) (suc j) g, same j (parentOf ps (suc j)) (parentOf ps (suc j)) (omega arith) (omega arith))
+      rw (lt-ltb (suc j) (length ps) h, lt-ltb (parentIn ps (suc j)) (length ps) (omega arith), lt-ltb (parentIn ps (suc j)) (suc j) g, same j (parentIn ps (suc j)) (parentIn ps (suc j)) (omega arith) (omega arith))
 
-  pub branch-longer : (j : ℕ) → j < length ps → parentOf ps j < j → length (branch ps j) ≡ length (branch ps (parentOf ps j)) + 1
+  pub branch-longer : (j : ℕ) → j < length ps → parentIn ps j < j → length (branch ps j) ≡ length (branch ps (parentIn ps j)) + 1
   branch-longer j h g = rw (branch-more j h g, length-append)
 
   -- ---- the marks of a link, in one rising pass
@@ -56,11 +56,11 @@ module _ (ps : List ℕ) where
     unfolding atOrBelow standsIn
     mark-none h = rw (branch-none j h)
 
-    pub mark-alone : j < length ps → j ≤ parentOf ps j → atOrBelow ps i j ≡ eqb j i
+    pub mark-alone : j < length ps → j ≤ parentIn ps j → atOrBelow ps i j ≡ eqb j i
     unfolding atOrBelow standsIn
     mark-alone h g = rw (branch-alone j h g) (or-false (eqb j i))
 
-    pub mark-more : j < length ps → parentOf ps j < j → atOrBelow ps i j ≡ (eqb j i || atOrBelow ps i (parentOf ps j))
+    pub mark-more : j < length ps → parentIn ps j < j → atOrBelow ps i j ≡ (eqb j i || atOrBelow ps i (parentIn ps j))
     unfolding atOrBelow
     mark-more h g = rw (branch-more j h g, stands-snoc) (or-comm _ (eqb j i))
 

@@ -8,9 +8,9 @@ use native.Mathlib.Numerals.{add-one}
 use borrow.Author.Tests.{ltb-true}
 use lib.ListN.{length}
 use lib.Dec.{eqb, ltb}
-use Rattle.topology.specs.Tables.{allBelow}
-use Rattle.topology.specs.Parents.{parentOf, parentFits, parentsFit}
-use Rattle.topology.proofs.Tables.{all-at}
+use Rattle.lists.proofs.Numbers.{all-at}
+use Rattle.lists.specs.Numbers.{allBelow}
+use Rattle.topology.specs.Parents.{parentFits, parentsFit, parentIn}
 
 pub first : (j p : ℕ) → j ≡ 0 → eqb p 0 ≡ parentFits j p
 unfolding parentFits
@@ -24,13 +24,13 @@ later (suc j) p h = refl
 
 -- the first j links fit
 abbrev pub fitTo : List ℕ → ℕ → Bool
-fitTo ps n = allBelow n (λ j. parentFits j (parentOf ps j))
+fitTo ps n = allBelow n (λ j. parentFits j (parentIn ps j))
 
 pub fit-none : (ps : List ℕ) → true ≡ fitTo ps 0
 unfolding allBelow
 fit-none ps = refl
 
-pub fit-more : (ps : List ℕ) (j : ℕ) (fit r : Bool) → fit ≡ fitTo ps j → r ≡ parentFits j (parentOf ps j) → (fit && r) ≡ fitTo ps (j + 1)
+pub fit-more : (ps : List ℕ) (j : ℕ) (fit r : Bool) → fit ≡ fitTo ps j → r ≡ parentFits j (parentIn ps j) → (fit && r) ≡ fitTo ps (j + 1)
 unfolding allBelow
 fit-more ps j fit r e q = rw (add-one, e, q)
 
@@ -39,11 +39,11 @@ unfolding parentsFit
 fit-all ps j fit e q = rw q at e
 
 module _ (ps : List ℕ) (fit : parentsFit ps ≡ true) where
-  at : (j : ℕ) → j < length ps → parentFits j (parentOf ps j) ≡ true
+  at : (j : ℕ) → j < length ps → parentFits j (parentIn ps j) ≡ true
   unfolding parentsFit
-  at j h = all-at (length ps) (λ k. parentFits k (parentOf ps k)) fit j h
+  at j h = all-at (length ps) (λ k. parentFits k (parentIn ps k)) fit j h
 
-  pub earlier : (j : ℕ) → 0 < j → j < length ps → parentOf ps j < j
+  pub earlier : (j : ℕ) → 0 < j → j < length ps → parentIn ps j < j
   unfolding parentFits
   earlier zero l h = absurd (omega arith)
-  earlier (suc j) l h = ltb-true (parentOf ps (suc j)) (suc j) (at (suc j) h)
+  earlier (suc j) l h = ltb-true (parentIn ps (suc j)) (suc j) (at (suc j) h)

@@ -9,13 +9,13 @@ use borrow.Author.Tests.{lt-ltb, le-ltb, eqb-true, eqb-false, eq-eqb, ne-eqb}
 use lib.ListN.{length, take, drop, getD, set, replicate, length-append, length-drop, length-set, getD-replicate}
 use lib.Seq.{drop-cons, getD-take, getD-set-same, getD-set-other}
 use lib.Dec.{eqb, ltb}
+use Rattle.lists.proofs.Numbers.{getD-each, count-le, count-same}
+use Rattle.lists.specs.Numbers.{each, oneMore, countBelow}
 use Rattle.limits.specs.Limits.{linkLimit}
 use Rattle.topology.specs.declared.Split.{Split}
-use Rattle.topology.specs.Tables.{each, oneMore, countBelow}
 use Rattle.topology.specs.Parents.{parentsFit}
 use Rattle.topology.specs.Split.{survives, partCount, partOf, isHead, isIn, numberOf, gone, partByte, numberByte, splitMap}
 use Rattle.topology.specs.Numbered.{partAt, numberAt, numbered}
-use Rattle.topology.proofs.Tables.{getD-each, count-le, count-same}
 use Rattle.topology.proofs.Pass.{part-below}
 
 two-in : (xs rest : List ℕ) (x y a b : ℕ) → set (set (xs ++ x ∷ y ∷ rest) (length xs) a) (suc (length xs)) b ≡ xs ++ a ∷ b ∷ rest

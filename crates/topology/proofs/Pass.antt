@@ -8,14 +8,14 @@ use native.Mathlib.Numerals.{add-one}
 use native.Mathlib.Decide.{decLt}
 use lib.ListN.{length, take, getD, set}
 use lib.Dec.{eqb}
-use Rattle.refusal.proofs.Tests.{both-hold}
+use Rattle.lists.proofs.Numbers.{Filled, filled-none, filled-more, filled-at, count-le, count-lt, last-snoc}
+use Rattle.lists.specs.Numbers.{each, countBelow, lastThat}
+use Rattle.lists.proofs.Bools.{both-hold}
 use Rattle.topology.specs.declared.Split.{Split}
 use Rattle.topology.specs.declared.Split.the-variants.{Delete, Cut}
-use Rattle.topology.specs.Tables.{each, countBelow, lastThat}
-use Rattle.topology.specs.Parents.{parentOf, parentsFit}
+use Rattle.topology.specs.Parents.{parentsFit, parentIn}
 use Rattle.topology.specs.Split.{survives, headOf, isHead, rank, partCount, nearestHead, partOf, gone, partByte}
 use Rattle.topology.specs.Words.{Survivor}
-use Rattle.topology.proofs.Tables.{Filled, filled-none, filled-more, filled-at, count-le, count-lt, last-snoc}
 use Rattle.topology.proofs.Fitting.{earlier}
 use Rattle.topology.proofs.Branch.{branch-alone, branch-more}
 
@@ -48,7 +48,7 @@ module _ (ps : List ℕ) (s : Split) where
   -- a head's part is its rank
   pub nearest-self : (j : ℕ) → j < length ps → isHead ps s j ≡ true → nearestHead ps s j ≡ j
   unfolding nearestHead lastThat
-  nearest-self j l h = elim (decLt (parentOf ps j) j) [
+  nearest-self j l h = elim (decLt (parentIn ps j) j) [
     | yes p ↦ rw (branch-more ps j l p, last-snoc, h)
     | no p ↦ rw (branch-alone ps j l (omega arith), h)
   ]
@@ -60,31 +60,31 @@ module _ (ps : List ℕ) (s : Split) where
   module _ (fit : parentsFit ps ≡ true) (j : ℕ) (l : j < length ps) (a : survives s j ≡ true) (b : isHead ps s j ≡ false) where
     pub later-link : 0 < j
     unfolding isHead
-    later-link = body-later s j (parentOf ps j) a b
+    later-link = body-later s j (parentIn ps j) a b
 
-    pub parent-survives : survives s (parentOf ps j) ≡ true
+    pub parent-survives : survives s (parentIn ps j) ≡ true
     unfolding isHead
-    parent-survives = body-parent s j (parentOf ps j) a b
+    parent-survives = body-parent s j (parentIn ps j) a b
 
-    pub parent-earlier : parentOf ps j < j
+    pub parent-earlier : parentIn ps j < j
     parent-earlier = earlier ps fit j later-link l
 
-    pub nearest-parent : nearestHead ps s j ≡ nearestHead ps s (parentOf ps j)
+    pub nearest-parent : nearestHead ps s j ≡ nearestHead ps s (parentIn ps j)
     unfolding nearestHead
     nearest-parent = rw (branch-more ps j l parent-earlier, last-snoc, b)
 
-    pub part-body : partOf ps s j ≡ partOf ps s (parentOf ps j)
+    pub part-body : partOf ps s j ≡ partOf ps s (parentIn ps j)
     unfolding partOf
     part-body = rw nearest-parent
 
   -- what holds of heads, and of any other survivor where it holds of its parent, holds of every survivor
   module _ (fit : parentsFit ps ≡ true) (P : ℕ → Type 0) (at-head : (j : ℕ) → Survivor ps s j → isHead ps s j ≡ true → P j)
-      (at-body : (j : ℕ) → Survivor ps s j → isHead ps s j ≡ false → P (parentOf ps j) → P j) where
+      (at-body : (j : ℕ) → Survivor ps s j → isHead ps s j ≡ false → P (parentIn ps j) → P j) where
     rising : (m j : ℕ) → j < m → Survivor ps s j → P j
     rising zero j h v = absurd (omega arith)
-    rising (suc m) j h v = go (isHead ps s j) refl (λ e l g. rising m (parentOf ps j) (omega arith) (g, e))
+    rising (suc m) j h v = go (isHead ps s j) refl (λ e l g. rising m (parentIn ps j) (omega arith) (g, e))
       where
-        go : (b : Bool) → isHead ps s j ≡ b → (survives s (parentOf ps j) ≡ true → parentOf ps j < j → parentOf ps j < length ps → P (parentOf ps j)) → P j
+        go : (b : Bool) → isHead ps s j ≡ b → (survives s (parentIn ps j) ≡ true → parentIn ps j < j → parentIn ps j < length ps → P (parentIn ps j)) → P j
         go true e ih = at-head j v e
         go false e ih =
             let l = parent-earlier fit j (v .0) (v .1) e in
@@ -120,17 +120,17 @@ module _ (ps : List ℕ) (s : Split) where
     unfolding rank countBelow partByte isHead
     passed-head e = record {
       counted = rw (add-one count, add-one j, t .counted, e);
-      filled = filled-more (partByte ps s) l₀ j l count (omega arith) (t .filled) (t .counted ∙ sym (rw (head-survives s j (parentOf ps j) e) (part-head j h e)));
+      filled = filled-more (partByte ps s) l₀ j l count (omega arith) (t .filled) (t .counted ∙ sym (rw (head-survives s j (parentIn ps j) e) (part-head j h e)));
     }
 
-    pub passed-body : parentsFit ps ≡ true → isHead ps s j ≡ false → survives s j ≡ true → Passed l₀ (j + 1) (set l j (getD l (parentOf ps j) 0)) count
+    pub passed-body : parentsFit ps ≡ true → isHead ps s j ≡ false → survives s j ≡ true → Passed l₀ (j + 1) (set l j (getD l (parentIn ps j) 0)) count
     unfolding rank countBelow partByte
     passed-body fit e a =
         let p = parent-earlier fit j h a e in
-        let above : getD l (parentOf ps j) 0 ≡ partByte ps s j = filled-at (partByte ps s) l₀ j l (parentOf ps j) 0 (t .filled) p ∙ rw (a, parent-survives fit j h a e) (sym (part-body fit j h a e)) in
+        let above : getD l (parentIn ps j) 0 ≡ partByte ps s j = filled-at (partByte ps s) l₀ j l (parentIn ps j) 0 (t .filled) p ∙ rw (a, parent-survives fit j h a e) (sym (part-body fit j h a e)) in
         record {
           counted = rw (add-one j, t .counted, e);
-          filled = filled-more (partByte ps s) l₀ j l (getD l (parentOf ps j) 0) (omega arith) (t .filled) above;
+          filled = filled-more (partByte ps s) l₀ j l (getD l (parentIn ps j) 0) (omega arith) (t .filled) above;
         }
 
     pub passed-gone : isHead ps s j ≡ false → survives s j ≡ false → Passed l₀ (j + 1) (set l j gone) count

@@ -9,6 +9,7 @@ use native.Mathlib.Decide.{decLt}
 use borrow.Author.Tests.{leb-true, ltb-true, le-leb, lt-leb}
 use lib.ListN.{length, drop}
 use lib.Dec.{leb, ltb}
+use Rattle.refusal.specs.Counted.{out, filled}
 use Rattle.limits.specs.Limits.{linkLimit}
 use Rattle.refusal.specs.Refusal.{unlessOf}
 use Rattle.refusal.proofs.Laws.{is-lowest}
@@ -16,7 +17,7 @@ use Rattle.refusal.proofs.Tests.{holds}
 use Rattle.topology.specs.declared.Split.{Split}
 use Rattle.topology.specs.Parents.{parentsFit, branch}
 use Rattle.topology.specs.Split.{linkOf, partCount, splitMap}
-use Rattle.topology.specs.Answers.{out, given, refusalOf, branchAnswer, splitAnswer}
+use Rattle.topology.specs.Answers.{refusalOf, branchAnswer, splitAnswer}
 use Rattle.topology.proofs.Mapped.{map-length}
 
 pub record Accepted (ps : List ℕ) (link : ℕ) (enough : Bool) : Type 0 where
@@ -36,13 +37,13 @@ accepted ps link enough r e z =
       fit = holds (parentsFit ps) 3 (none _ (inr (inr (inr (inl refl)))));
     }
 
-refused : (k n : ℕ) (bytes m : List ℕ) → (k ≡ 0 → ⊥) → out (record { refusal = k; count = 0 }) m ≡ given k n bytes m
-unfolding given
+refused : (k n : ℕ) (bytes m : List ℕ) → (k ≡ 0 → ⊥) → out (record { refusal = k; count = 0 }) m ≡ filled k n bytes m
+unfolding filled
 refused zero n bytes m h = absurd (h refl)
 refused (suc k) n bytes m h = refl
 
-done : (k n : ℕ) (bytes m to : List ℕ) → k ≡ 0 → to ≡ bytes ++ drop (length bytes) m → out (record { refusal = 0; count = n }) to ≡ given k n bytes m
-unfolding given
+done : (k n : ℕ) (bytes m to : List ℕ) → k ≡ 0 → to ≡ bytes ++ drop (length bytes) m → out (record { refusal = 0; count = n }) to ≡ filled k n bytes m
+unfolding filled
 done zero n bytes m to h e = rw e
 done (suc k) n bytes m to h e = absurd (omega arith)
 

@@ -10,15 +10,15 @@ use native.Mathlib.Decide.{decLt}
 use borrow.Author.Tests.{eqb-true, eq-eqb}
 use lib.ListN.{length, getD, List·getD-append}
 use lib.Seq.{getD-append-add}
+use Rattle.lists.proofs.Numbers.{getD-each, count-lt, count-at}
+use Rattle.lists.specs.Numbers.{each, oneMore, countBelow}
+use Rattle.lists.proofs.Bools.{both-hold}
 use Rattle.limits.specs.Limits.{linkLimit}
-use Rattle.refusal.proofs.Tests.{both-hold}
 use Rattle.topology.specs.declared.Split.{Split}
-use Rattle.topology.specs.Tables.{each, oneMore, countBelow}
 use Rattle.topology.specs.Above.{AtOrAbove, itself, above}
-use Rattle.topology.specs.Parents.{parentOf, parentsFit, branch, atOrBelow, marks}
+use Rattle.topology.specs.Parents.{parentsFit, branch, atOrBelow, marks, parentIn}
 use Rattle.topology.specs.Split.{survives, isHead, rank, partCount, nearestHead, partOf, isIn, numberOf, partByte, numberByte, splitMap}
 use Rattle.topology.specs.Words.{FromRoot, Nearest, Survivor, RisingPass, WithParent, numbersIn, sizeOf, upTo}
-use Rattle.topology.proofs.Tables.{getD-each, count-lt, count-at}
 use Rattle.topology.proofs.Fitting.{earlier}
 use Rattle.topology.proofs.Pass.{head-survives, nearest-self, part-head, later-link, parent-survives, parent-earlier, nearest-parent, part-body, by-parents, part-below}
 use Rattle.topology.proofs.Mapped.{map-length}
@@ -26,11 +26,11 @@ use Rattle.topology.proofs.Above.{above-le, marked-above, above-marked,
 
 module _ (ps : List ℕ) (fit : parentsFit ps ≡ true) where
   -- a branch starts at the root and ends at its link, and each next one's parent is the one before
-  pub branch-from-root : (j : ℕ) → j < length ps → FromRoot (parentOf ps) (branch ps j) j
+  pub branch-from-root : (j : ℕ) → j < length ps → FromRoot (parentIn ps) (branch ps j) j
   branch-from-root j h = from-root ps fit (suc j) j (omega arith) h
 
   -- the marks of a link are exactly the links at or below it
-  pub marks-right : length ps ≤ linkLimit → (i j : ℕ) → j < length ps → (getD (marks ps i) j false ≡ true) ↔ AtOrAbove (parentOf ps) i j
+  pub marks-right : length ps ≤ linkLimit → (i j : ℕ) → j < length ps → (getD (marks ps i) j false ≡ true) ↔ AtOrAbove (parentIn ps) i j
   unfolding marks
   marks-right few i j h =
       let e = getD-each (atOrBelow ps i) linkLimit j false (omega arith) in
@@ -80,7 +80,7 @@ module _ (ps : List ℕ) (s : Split) where
         record {
           survivor = (omega arith, a);
           same-part = same;
-          greater = rw (← same) (count-lt (isIn ps s (partOf ps s j)) (parentOf ps j) j l (rw a (eq-eqb _ _ (sym same))));
+          greater = rw (← same) (count-lt (isIn ps s (partOf ps s j)) (parentIn ps j) j l (rw a (eq-eqb _ _ (sym same))));
         }
 
     -- every part number is below the part count
@@ -92,16 +92,16 @@ module _ (ps : List ℕ) (s : Split) where
     unfolding partCount rank isHead
     part-has-head q l =
         let r = count-at (isHead ps s) (length ps) q l in
-        (r .0, (r .1, head-survives s (r .0) (parentOf ps (r .0)) (r .2)), r .2, part-head ps s (r .0) (r .1) (r .2) ∙ r .3)
+        (r .0, (r .1, head-survives s (r .0) (parentIn ps (r .0)) (r .2)), r .2, part-head ps s (r .0) (r .1) (r .2) ∙ r .3)
 
     -- the head that the definition takes is the nearest at or above
-    climb : {g j : ℕ} → AtOrAbove (parentOf ps) g j → isHead ps s g ≡ true → isHead ps s j ≡ false → AtOrAbove (parentOf ps) g (parentOf ps j)
+    climb : {g j : ℕ} → AtOrAbove (parentIn ps) g j → isHead ps s g ≡ true → isHead ps s j ≡ false → AtOrAbove (parentIn ps) g (parentIn ps j)
     climb itself e h = absurd (true≢false (sym e ∙ h))
     climb (above l u) e h = u
 
-    pub nearest-head : (j : ℕ) → Survivor ps s j → Nearest (parentOf ps) (isHead ps s) (nearestHead ps s j) j
+    pub nearest-head : (j : ℕ) → Survivor ps s j → Nearest (parentIn ps) (isHead ps s) (nearestHead ps s j) j
     nearest-head =
-        by-parents ps s fit (λ j. Nearest (parentOf ps) (isHead ps s) (nearestHead ps s j) j)
+        by-parents ps s fit (λ j. Nearest (parentIn ps) (isHead ps s) (nearestHead ps s j) j)
         (λ j v h. rw (nearest-self ps s j (v .0) h) (record { head-there = h; there = itself; nearest = λ g e u. u }))
         (λ j v h ih. rw (nearest-parent ps s fit j (v .0) (v .1) h) (record {
           head-there = ih .head-there;
@@ -109,8 +109,8 @@ module _ (ps : List ℕ) (s : Split) where
           nearest = λ g e u. ih .nearest g e (climb u e h);
         }))
 
-    not-later : {i j : ℕ} → AtOrAbove (parentOf ps) i j → j < length ps → i ≤ j
-    not-later u h = above-le (parentOf ps) (length ps) (earlier ps fit) u h
+    not-later : {i j : ℕ} → AtOrAbove (parentIn ps) i j → j < length ps → i ≤ j
+    not-later u h = above-le (parentIn ps) (length ps) (earlier ps fit) u h
 
     -- the part that one rising pass finds is the rank of the nearest head at or above
     module _ (f : ℕ → ℕ) (pass : RisingPass ps s f) where
@@ -120,7 +120,7 @@ module _ (ps : List ℕ) (s : Split) where
           (λ j v h. pass j v ∙ rw h (sym (part-head ps s j (v .0) h)))
           (λ j v h ih. pass j v ∙ rw h (ih ∙ sym (part-body ps s fit j (v .0) (v .1) h)))
 
-      pub rising-pass : (h j : ℕ) → Survivor ps s j → Nearest (parentOf ps) (isHead ps s) h j → f j ≡ rank ps s h
+      pub rising-pass : (h j : ℕ) → Survivor ps s j → Nearest (parentIn ps) (isHead ps s) h j → f j ≡ rank ps s h
       unfolding partOf
       rising-pass h j v m =
           let n = nearest-head j v in

@@ -6,7 +6,7 @@ use native.Mathlib.Omega.{arith}
 use native.Mathlib.Decide.{decLt}
 use lib.ListN.{length, take, drop, getD, set, length-append, length-set}
 use lib.Seq.{take-append-seam, take-at, getD-append-seam, getD-at, take-suc, take-length, drop-length, drop-cons, getD-set-same, drop-set-lt, length-take-le}
-use Rattle.topology.specs.Parents.{parentOf, branch}
+use Rattle.topology.specs.Parents.{branch, parentIn}
 use Rattle.topology.proofs.Branch.{branch-none, branch-alone, branch-more}
 
 snoc-front : (xs ys : List ℕ) (x y : ℕ) → xs ++ (x ∷ []) ≡ ys ++ (y ∷ []) → xs ≡ ys
@@ -47,21 +47,21 @@ module _ (ps : List ℕ) where
     parted = sym (take-suc b m 0 h) ∙ e
 
     this-link : getD b m 0 ≡ j
-    this-link = elim (decLt (parentOf ps j) j) [
-      | yes p ↦ snoc-last (take m b) (branch ps (parentOf ps j)) _ j (parted ∙ branch-more ps j l p)
+    this-link = elim (decLt (parentIn ps j) j) [
+      | yes p ↦ snoc-last (take m b) (branch ps (parentIn ps j)) _ j (parted ∙ branch-more ps j l p)
       | no p ↦ snoc-last (take m b) [] _ j (parted ∙ branch-alone ps j l (omega arith))
     ]
 
-    next-branch : 0 < m → (parentOf ps j < length ps) × (take m b ≡ branch ps (parentOf ps j))
-    next-branch g = elim (decLt (parentOf ps j) j) [
-      | yes p ↦ (omega arith, snoc-front (take m b) (branch ps (parentOf ps j)) _ j (parted ∙ branch-more ps j l p))
+    next-branch : 0 < m → (parentIn ps j < length ps) × (take m b ≡ branch ps (parentIn ps j))
+    next-branch g = elim (decLt (parentIn ps j) j) [
+      | yes p ↦ (omega arith, snoc-front (take m b) (branch ps (parentIn ps j)) _ j (parted ∙ branch-more ps j l p))
       | no p ↦
           let z = ap length (snoc-front (take m b) [] _ j (parted ∙ branch-alone ps j l (omega arith))) in
           absurd (omega (arith, length-take-le m b (omega arith)))
     ]
 
   -- a turn of the loop
-  pub written-more : (b to₀ : List ℕ) (at m j : ℕ) (to : List ℕ) → at ≡ m + 1 → length b ≤ length to₀ → Written ps b to₀ at j to → Written ps b to₀ m (parentOf ps j) (set to m j)
+  pub written-more : (b to₀ : List ℕ) (at m j : ℕ) (to : List ℕ) → at ≡ m + 1 → length b ≤ length to₀ → Written ps b to₀ at j to → Written ps b to₀ m (parentIn ps j) (set to m j)
   written-more b to₀ at m j to q long w =
       let s : at ≡ suc m = omega arith in
       let h : m < length b = omega (arith, w .within) in

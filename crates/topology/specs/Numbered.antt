@@ -4,8 +4,8 @@ use mathlib.Core.Bool.{cond}
 use mathlib.Core.List.{List, [], _∷_, _++_}
 use lib.ListN.{getD}
 use lib.Dec.{eqb, ltb}
+use Rattle.lists.specs.Numbers.{countBelow}
 use Rattle.limits.specs.Limits.{linkLimit}
-use Rattle.topology.specs.Tables.{countBelow}
 use Rattle.topology.specs.Split.{gone}
 
 -- the part at place j

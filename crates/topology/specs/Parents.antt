@@ -4,12 +4,12 @@ use mathlib.Core.Bool.{Bool, cond}
 use mathlib.Core.List.{List, [], _∷_, _++_}
 use lib.ListN.{length, getD}
 use lib.Dec.{eqb, ltb}
+use Rattle.lists.specs.Numbers.{each, allBelow, standsIn}
 use Rattle.limits.specs.Limits.{linkLimit}
-use Rattle.topology.specs.Tables.{each, allBelow, standsIn}
 
 -- the parent of link j
-abbrev pub parentOf : List ℕ → ℕ → ℕ
-parentOf ps j = getD ps j 0
+abbrev pub parentIn : List ℕ → ℕ → ℕ
+parentIn ps j = getD ps j 0
 
 -- rule 4 for link j of parent p: a first link's parent is 0, a later link's is earlier
 unfoldable pub parentFits : ℕ → ℕ → Bool
@@ -18,12 +18,12 @@ parentFits (suc j) p = ltb p (suc j)
 
 -- rule 4 for every link of a list
 unfoldable pub parentsFit : List ℕ → Bool
-parentsFit ps = allBelow (length ps) (λ j. parentFits j (parentOf ps j))
+parentsFit ps = allBelow (length ps) (λ j. parentFits j (parentIn ps j))
 
 -- the links met on the way up from link j, the highest first: at most k steps, and none where the parent isn't earlier
 unfoldable pub wayTo : List ℕ → ℕ → ℕ → List ℕ
 wayTo ps zero j = j ∷ []
-wayTo ps (suc k) j = cond (ltb (parentOf ps j) j) (wayTo ps k (parentOf ps j)) [] ++ (j ∷ [])
+wayTo ps (suc k) j = cond (ltb (parentIn ps j) j) (wayTo ps k (parentIn ps j)) [] ++ (j ∷ [])
 
 -- from the root to link j, which is j steps at most; nothing for a number that isn't below the count
 unfoldable pub branch : List ℕ → ℕ → List ℕ

@@ -4,10 +4,10 @@ use mathlib.Core.Bool.{Bool, true, cond, not, _&&_, _||_}
 use mathlib.Core.List.{List, [], _∷_, _++_}
 use lib.ListN.{length}
 use lib.Dec.{eqb}
+use Rattle.lists.specs.Numbers.{countBelow, lastThat}
 use Rattle.topology.specs.declared.Split.{Split}
 use Rattle.topology.specs.declared.Split.the-variants.{Delete, Cut}
-use Rattle.topology.specs.Tables.{countBelow, lastThat}
-use Rattle.topology.specs.Parents.{parentOf, branch}
+use Rattle.topology.specs.Parents.{branch, parentIn}
 
 -- the link that is deleted, or whose joint is cut
 abbrev pub linkOf : Split → ℕ
@@ -27,7 +27,7 @@ headOf (Cut k) j p = eqb j 0 || eqb j k
 module _ (ps : List ℕ) (s : Split) where
   -- is link j a head?
   unfoldable pub isHead : ℕ → Bool
-  isHead j = headOf s j (parentOf ps j)
+  isHead j = headOf s j (parentIn ps j)
 
   -- how many heads come before link h: the rank of a head, heads in rising order
   unfoldable pub rank : ℕ → ℕ

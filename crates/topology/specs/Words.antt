@@ -4,10 +4,10 @@ use mathlib.Core.Path.{_≡_}
 use mathlib.Core.Bool.{Bool, true, cond}
 use mathlib.Core.List.{List, [], _∷_, _++_}
 use lib.ListN.{length, getD}
+use Rattle.topology.specs.Parents.{parentIn}
+use Rattle.lists.specs.Numbers.{each, countBelow}
 use Rattle.topology.specs.declared.Split.{Split}
-use Rattle.topology.specs.Tables.{each, countBelow}
 use Rattle.topology.specs.Above.{AtOrAbove}
-use Rattle.topology.specs.Parents.{parentOf}
 use Rattle.topology.specs.Split.{survives, isHead, rank, partOf, isIn, numberOf}
 
 -- b goes from the root to link j: it starts with 0 and ends with j, and each next one's parent is the one before
@@ -29,13 +29,13 @@ module _ (ps : List ℕ) (s : Split) where
 
   -- f holds the parts that one rising pass finds: a head's is its rank, any other survivor's is its parent's
   abbrev pub RisingPass : (ℕ → ℕ) → Type 0
-  RisingPass f = (j : ℕ) → Survivor j → f j ≡ cond (isHead ps s j) (rank ps s j) (f (parentOf ps j))
+  RisingPass f = (j : ℕ) → Survivor j → f j ≡ cond (isHead ps s j) (rank ps s j) (f (parentIn ps j))
 
   -- link j lies in its parent's part, with a greater number
   pub record WithParent (j : ℕ) : Type 0 where
-    pub survivor : Survivor (parentOf ps j)
-    pub same-part : partOf ps s j ≡ partOf ps s (parentOf ps j)
-    pub greater : numberOf ps s (parentOf ps j) < numberOf ps s j
+    pub survivor : Survivor (parentIn ps j)
+    pub same-part : partOf ps s j ≡ partOf ps s (parentIn ps j)
+    pub greater : numberOf ps s (parentIn ps j) < numberOf ps s j
 
   -- the new numbers of part q, links in rising order, among the first n
   unfoldable pub numbersIn : ℕ → ℕ → List ℕ

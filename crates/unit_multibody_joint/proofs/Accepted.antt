@@ -9,10 +9,11 @@ use borrow.Author.Tests.{leb-true, ltb-true}
 use lib.Dec.{leb, ltb}
 use lib.ListN.{length, take}
 use lib.Ieee.{Float}
+use Rattle.lists.proofs.Bools.{both-hold}
 use Rattle.limits.specs.Limits.{linkLimit, dofLimit}
 use Rattle.refusal.specs.Refusal.{unlessOf, In}
 use Rattle.refusal.proofs.Laws.{is-lowest}
-use Rattle.refusal.proofs.Tests.{both-hold, holds}
+use Rattle.refusal.proofs.Tests.{holds}
 use Rattle.floats.specs.Floats.{allFinite}
 use Rattle.masks.specs.Masks.{isFree}
 use Rattle.arm.specs.declared.Arm.{Arm}

@@ -8,12 +8,12 @@ use native.Mathlib.Nat.{sub-zero}
 use lib.ListN.{length, take, getD, set, replicate, length-replicate, length-set}
 use lib.Seq.{take-set-lt, take-all, length-take-le, getD-take}
 use lib.Ieee.{Float, nan, ofBits}
+use Rattle.lists.specs.Lists.{laid}
 use Rattle.limits.specs.Limits.{dofLimit}
 use Rattle.refusal.specs.Refusal.{unlessOf}
 use Rattle.floats.specs.Floats.{zero32, one32, allFinite, overlaid}
 use Rattle.floats.proofs.Rows.{overlaid-parts}
 use Rattle.floats.proofs.FiniteRows.{zeros-finite}
-use Rattle.masks.specs.Answers.{laid}
 use Rattle.solve.specs.Solve.{Answer, answer, solution, solveOf}
 use Rattle.unit_multibody_joint.specs.declared.Bounds.{Bounds}
 use Rattle.unit_multibody_joint.specs.declared.ConstraintRow.{ConstraintRow}
@@ -46,7 +46,6 @@ or-second (suc k) l h = absurd (omega arith)
 
 -- the first n places of a row, copied over the front of a memory
 pub copied : (n : ℕ) (row x j j₁ : List Float) → take n row ≡ x → length x ≡ n → n ≤ length j → j₁ ≡ overlaid j (take (n - 0) row) → j₁ ≡ laid x j
-unfolding laid
 copied n row x j j₁ p l h e =
     let z : take (n - 0) row ≡ x = rw (sub-zero n) p in
     e ∙ rw (z, overlaid-parts j x, take-all (length j) x (omega arith))

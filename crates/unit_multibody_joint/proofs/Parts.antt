@@ -7,6 +7,7 @@ use native.Mathlib.Decide.{decLt}
 use lib.ListN.{length, take, drop, getD, length-drop}
 use lib.Seq.{take-all, drop-drop, drop-nil, drop-length, take-nil}
 use lib.Ieee.{Float}
+use Rattle.lists.proofs.Lists.{map-at}
 use Rattle.floats.specs.Floats.{entryOf}
 use Rattle.masks.specs.Masks.{isFree, dofsBelow, dofsOf}
 use Rattle.masks.proofs.Laws.{no-axis, below-past}
@@ -16,7 +17,6 @@ use Rattle.arm.specs.declared.RowName.{RowName}
 use Rattle.arm.specs.declared.RowName.the-variants.{Frictions}
 use Rattle.arm.specs.Arm.{dofCountOf, rowNumber, entriesTo, rowsOf, maskAt, startAt}
 use Rattle.arm.specs.Edits.{dofAt}
-use Rattle.arm.proofs.Lists.{map-at}
 use Rattle.arm.proofs.Edits.{row-there}
 use Rattle.unit_multibody_joint.specs.Refusals.{rowUpTo, frictionAt}
 

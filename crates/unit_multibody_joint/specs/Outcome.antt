@@ -2,7 +2,7 @@
 use Prim.Native.Nat.{ℕ, zero, suc}
 use mathlib.Core.List.{List}
 use lib.Ieee.{Float}
-use Rattle.masks.specs.Answers.{laid}
+use Rattle.lists.specs.Lists.{laid}
 
 pub record Outcome (A : Type 0) : Type 0 where
   pub answer : A

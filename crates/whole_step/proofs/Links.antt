@@ -7,18 +7,17 @@ use native.Mathlib.Numerals.{add-one}
 use lib.ListN.{length, take, drop, getD, set, length-map, length-set}
 use lib.Seq.{drop-cons, set-at, getD-at, getD-take, length-take-le}
 use lib.Ieee.{Float}
+use Rattle.lists.proofs.Lists.{map-at, tail}
+use Rattle.lists.proofs.Numbers.{length-each}
+use Rattle.lists.specs.Numbers.{each}
 use Rattle.limits.specs.Limits.{linkLimit, dofLimit}
 use Rattle.masks.specs.Masks.{dofsOf}
 use Rattle.masks.specs.Starts.{startOf, totalOf}
 use Rattle.masks.proofs.Totals.{start-next, start-le}
-use Rattle.topology.specs.Tables.{each}
-use Rattle.topology.proofs.Tables.{length-each}
 use Rattle.arm.specs.declared.Link.{Link}
 use Rattle.arm.specs.declared.Arm.{Arm}
-use Rattle.arm.specs.Arm.{liveLinks, linksOf, lockedOf, masksOf, startAt}
+use Rattle.arm.specs.Arm.{liveLinks, linksOf, lockedOf, masksOf, startAt, noLink, linkAt}
 use Rattle.arm.specs.Edits.{withLinks}
-use Rattle.arm.proofs.Lists.{map-at, tail}
-use Rattle.kinematics.specs.State.{noLink, linkAt}
 use Rattle.whole_step.specs.Step.{linkIntegrated, velocitiesOf, linkAfter, linksAfter, armAfter}
 
 module _ (ls : List Link) (n : ℕ) where

@@ -9,24 +9,23 @@ use native.Mathlib.Nat.{eq-zero-or-pos}
 use native.Mathlib.Omega.{arith}
 use lib.ListN.{length, drop, length-append, length-drop, List·getD-append}
 use lib.Ieee.{Float}
+use Rattle.lists.proofs.Numbers.{length-each, getD-each}
+use Rattle.lists.specs.Numbers.{each}
+use Rattle.lists.proofs.Bools.{both-hold, both}
 use Rattle.limits.specs.Limits.{linkLimit}
 use Rattle.refusal.specs.Refusal.{unlessOf}
 use Rattle.refusal.proofs.Laws.{is-lowest}
-use Rattle.refusal.proofs.Tests.{both-hold, both}
 use Rattle.floats.specs.Floats.{isFinite}
 use Rattle.planar.specs.Poses.{finitePoint, finitePose}
 use Rattle.multibody_joint.specs.declared.Joint.{Joint}
 use Rattle.multibody_joint.specs.Motion.{integrated}
-use Rattle.topology.specs.Tables.{each}
-use Rattle.topology.proofs.Tables.{length-each, getD-each}
 use Rattle.arm.specs.declared.Link.{Link}
 use Rattle.arm.specs.declared.Arm.{Arm}
-use Rattle.arm.specs.Arm.{liveLinks}
+use Rattle.arm.specs.Arm.{liveLinks, noLink, linkAt}
 use Rattle.arm.specs.HandedIn.{jointFinite, linkFinite, anglesFit, armRefusal}
-use Rattle.kinematics.specs.State.{noLink, linkAt}
-use Rattle.working.specs.Outcome.{tablesFit}
-use Rattle.working.proofs.Tests.{standing, holds-in, passes, not-refused, link-passes, links-pass, still-passes}
-use Rattle.working.proofs.Again.{call-settles, call-keeps, call-joint}
+use Rattle.full_working.specs.Outcome.{tablesFit}
+use Rattle.full_working.proofs.Tests.{standing, holds-in, passes, not-refused, link-passes, links-pass, still-passes}
+use Rattle.full_working.proofs.Again.{call-settles, call-keeps, call-joint}
 use Rattle.whole_step.specs.Step.{linkIntegrated, linkAfter, linksAfter, velocitiesOf, armAfter, linkJointFinite, jointsFinite, stepRefusal, wholeStep}
 use Rattle.whole_step.specs.Promises.{StepSettles, StepKeeps}
 

@@ -1,6 +1,6 @@
 // The whole step of an arm (`integrate` of the multibody): every joint is integrated by one dt, then the arm is worked out in full.
 ghost use mathlib.Core.Path.{_≡_};
-ghost use Rattle.working.specs.Outcome.{out};
+ghost use Rattle.full_working.specs.Outcome.{out};
 ghost use Rattle.arm.specs.HandedIn.{angleFits};
 ghost use Rattle.whole_step.specs.Step.{linkIntegrated, linksAfter, armAfter, stepTestsOf, stepRefusal, wholeStep};
 use arm::Arm;
@@ -20,8 +20,8 @@ use multibody_joint::integrate;
 use planar::is_beyond;
 use refusal::lower;
 use refusal::unless;
-use working::tables_fit;
-use working::work_all;
+use full_working::tables_fit;
+use full_working::work_all;
 
 // ---- Every joint integrated
 

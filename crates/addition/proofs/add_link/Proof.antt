@@ -6,7 +6,7 @@ use borrow.Author.Tests.{not-false, not-true}
 use mathlib.Core.Path.{_∙_, refl, sym}
 use native.Mathlib.Omega.{arith}
 use Rattle.arm.proofs.Shape.{links-length}
-use Rattle.working.proofs.Refused.{refused}
+use Rattle.full_working.proofs.Refused.{refused}
 use borrow.Author.Needs.{needs}
 use Rattle.addition.proofs.add_link.Statement.{statement}
 use Rattle.addition.proofs.add_link.Tie as tie

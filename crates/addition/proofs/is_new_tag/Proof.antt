@@ -1,7 +1,7 @@
 -- `is_new_tag`: over the tags that count. Assumes nothing.
 use mathlib.Core.Path.{_∙_, ap, refl}
+use Rattle.lists.proofs.Lists.{front}
 use Rattle.arm.specs.HandedIn.{isNew}
-use Rattle.arm.proofs.Lists.{front}
 use borrow.Author.Needs.{needs}
 use Rattle.addition.proofs.is_new_tag.Statement.{statement}
 use Rattle.addition.proofs.is_new_tag.Tie as tie

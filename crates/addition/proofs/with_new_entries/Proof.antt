@@ -1,4 +1,5 @@
 -- `with_new_entries`: the first i rows have their zeros; then the damping row has its own. Assumes nothing.
+use Rattle.lists.proofs.Lists.{filled-more, map-at}
 use Rattle.addition.proofs.Entries.{rows-with}
 use Rattle.addition.specs.NewLink.{entriesSet, zeros}
 use Prim.Native.Nat.{_-_, _≤_}
@@ -7,7 +8,6 @@ use native.Mathlib.Omega.{arith}
 use lib.ListN.{length-map, length-set, length, take}
 use Rattle.masks.proofs.Laws.{dofs-le}
 use Rattle.arm.specs.declared.Row.{Row}
-use Rattle.arm.proofs.Lists.{filled-more, map-at}
 use mathlib.Core.List.{map, []}
 use borrow.Author.Needs.{needs}
 use Rattle.addition.proofs.with_new_entries.Statement.{statement}

@@ -4,9 +4,9 @@ use Prim.Native.Nat.{_-_, _≤_, _+_}
 use mathlib.Core.Path.{refl, _∙_, ap}
 use native.Mathlib.Omega.{arith}
 use borrow.Author.Needs.{needs}
+use Rattle.arm.proofs.Unique.{TestedUnique, unique-all, unique-more}
+use Rattle.lists.proofs.Lists.{tail}
 use Rattle.arm.specs.HandedIn.{isNew}
-use Rattle.arm.proofs.Lists.{tail}
-use Rattle.arm.proofs.Every.{TestedUnique, unique-all, unique-more}
 use Rattle.arm.proofs.all_unique.Statement.{statement}
 use Rattle.arm.proofs.all_unique.Tie as tie
 

@@ -4,8 +4,8 @@ use Prim.Native.Nat.{_-_, _≤_}
 use mathlib.Core.Path.{refl}
 use native.Mathlib.Omega.{arith}
 use borrow.Author.Needs.{needs}
+use Rattle.lists.proofs.Every.{Tested, tested-all, tested-more, tested-none}
 use Rattle.arm.specs.HandedIn.{differs}
-use Rattle.arm.proofs.Every.{Tested, tested-all, tested-more, tested-none}
 use Rattle.arm.proofs.is_new.Statement.{statement}
 use Rattle.arm.proofs.is_new.Tie as tie
 

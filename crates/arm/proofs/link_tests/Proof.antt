@@ -2,15 +2,16 @@
 use Prim.Native.Nat.{ℕ, _+_, _-_, _≤_, _<_}
 use native.Mathlib.Numerals.{add-one}
 use lib.ListN.{length, length-map, take, getD, set}
+use Rattle.lists.proofs.Every.{Tested, tested-failed, front-more, front-next, front-all}
+use Rattle.lists.proofs.Lists.{map-at}
+use Rattle.arm.proofs.Padded.{padded-more, length-padded}
 use Rattle.limits.specs.Limits.{linkLimit}
 use Rattle.arm.specs.Arm.{liveLinks, linksOf, tagOf, parentOf, lockedOf}
 use Rattle.arm.specs.HandedIn.{linkAngleFits, linkFinite, linkMasksFit, linkTestsOf, padded}
 use Rattle.arm.specs.declared.Arm.{Arm}
 use Rattle.arm.specs.declared.Link.{Link}
 use Rattle.arm.specs.declared.LinkTests.{LinkTests}
-use Rattle.arm.proofs.Lists.{padded-more, length-padded, map-at}
 use Rattle.arm.proofs.Live.{tags-front, parents-front, masks-front}
-use Rattle.arm.proofs.Every.{Tested, tested-failed, front-more, front-next, front-all}
 use Rattle.arm.proofs.Shape.{links-length}
 use mathlib.Core.List.{List, map}
 use mathlib.Core.Bool.{Bool}

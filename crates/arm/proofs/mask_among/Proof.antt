@@ -4,9 +4,9 @@ use native.Mathlib.Omega.{arith}
 use Prim.Native.Nat.{min}
 use lib.ListN.{length, take, length-take, List·getD-eq-default}
 use lib.Seq.{getD-take}
+use Rattle.lists.proofs.Lists.{any-default}
 use Rattle.limits.specs.Limits.{linkLimit}
 use borrow.Author.Needs.{needs}
-use Rattle.floats.proofs.Rows.{any-default}
 use Rattle.arm.proofs.mask_among.Statement.{statement}
 use Rattle.arm.proofs.mask_among.Tie as tie
 

@@ -1,8 +1,8 @@
 -- `branch_needed`: the length of the branch over the bare parents. Assumes nothing.
 use mathlib.Core.Path.{_∙_}
 use borrow.Author.Needs.{needs}
+use Rattle.lists.proofs.Lists.{front}
 use Rattle.arm.proofs.Shape.{links-length}
-use Rattle.arm.proofs.Lists.{front}
 use Rattle.arm.proofs.Live.{parents-front}
 use Rattle.arm_views.proofs.Branches.{arm-needed}
 use Rattle.arm_views.proofs.branch_needed.Statement.{statement}

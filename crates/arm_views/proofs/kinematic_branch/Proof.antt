@@ -1,8 +1,8 @@
 -- `kinematic_branch`: an accepted call is accepted for the bare parents; a refusal leaves the memory. Assumes nothing.
 use mathlib.Core.Path.{_∙_}
 use borrow.Author.Needs.{needs}
+use Rattle.lists.proofs.Lists.{front}
 use Rattle.arm.proofs.Shape.{links-length}
-use Rattle.arm.proofs.Lists.{front}
 use Rattle.arm.proofs.Live.{parents-front}
 use Rattle.arm_views.proofs.Branches.{branch-accepted, branch-refused}
 use Rattle.arm_views.proofs.kinematic_branch.Statement.{statement}

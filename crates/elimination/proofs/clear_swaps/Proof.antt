@@ -1,10 +1,10 @@
 -- `clear_swaps`: the first i numbers are 0, the rest is as it was.
-use Rattle.elimination.proofs.Filled.{filled, filled-all, filled-more}
 use lib.ListN.{length, length-set}
 use Prim.Native.Nat.{_-_, _≤_}
 use mathlib.Core.Path.{_∙_, _≡_}
 use native.Mathlib.Omega.{arith}
 use borrow.Author.Needs.{needs}
+use Rattle.lists.proofs.Filled.{filled, filled-all, filled-more}
 use Rattle.elimination.proofs.clear_swaps.Statement.{statement}
 use Rattle.elimination.proofs.clear_swaps.Tie as tie
 

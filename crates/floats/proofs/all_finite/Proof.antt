@@ -1,17 +1,17 @@
 -- `all_finite`: what is tested so far, with what is left, is the whole test. Assumes nothing.
 use native.Mathlib.Omega.{arith}
-use mathlib.Core.Path.{_≡_, refl, sym, _∙_}
-use mathlib.Core.Bool.{_&&_}
+use mathlib.Core.Path.{refl}
 use Prim.Native.Nat.{_≤_, _-_}
-use lib.ListN.{length, drop}
-use Rattle.floats.specs.Floats.{allFinite}
-use Rattle.floats.proofs.Tests.{tested-more, tested-all}
+use lib.ListN.{length}
+use lib.Ieee.{nan}
+use Rattle.lists.proofs.Every.{Tested, tested-more, tested-all}
+use Rattle.floats.specs.Floats.{isFinite}
 use borrow.Author.Needs.{needs}
 use Rattle.floats.proofs.all_finite.Statement.{statement}
 use Rattle.floats.proofs.all_finite.Tie as tie
 
 abbrev Inv-loop : tie.InvT-loop
-Inv-loop s ok₀ i₀ ok i = (i ≤ length s) × (allFinite s ≡ (ok && allFinite (drop i s)))
+Inv-loop s ok₀ i₀ ok i = (i ≤ length s) × Tested isFinite s i ok
 
 abbrev μ-loop : tie.MeasureT-loop
 μ-loop s ok₀ i₀ ok i = length s - i
@@ -38,13 +38,13 @@ loop-again : tie.Need-loop-again Inv-loop μ-loop
 loop-again c =
     let k = c .before .before .before in
     let s = k .before .before .args .s .now in
-    (omega arith, k .loop .inv .1 ∙ tested-more (k .loop .ok) (c .finite .result) s (k .loop .i) (omega arith) (c .finite .ensures))
+    (omega arith, tested-more isFinite s (k .loop .i) (k .loop .ok) (c .finite .result) nan (omega arith) (c .finite .ensures) (k .loop .inv .1))
 
 returns : tie.Need-returns Inv-loop μ-loop
 returns c =
     let k = c .before in
     let s = k .before .before .args .s .now in
-    sym (k .loop .inv .1 ∙ tested-all (k .loop .ok) s (k .loop .i) (omega arith))
+    tested-all isFinite s (k .loop .i) (k .loop .ok) (omega arith) (k .loop .inv .1)
 
 pub all-finite-spec : {M : Type 1} → statement M
 all-finite-spec =

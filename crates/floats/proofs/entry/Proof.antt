@@ -3,8 +3,8 @@ use mathlib.Core.Path.{sym}
 use lib.ListN.{List·getD-eq-default}
 use lib.Ieee.{nan}
 use borrow.Author.Needs.{needs}
+use Rattle.lists.proofs.Lists.{any-default}
 use Rattle.floats.specs.Floats.{zero32, entryOf}
-use Rattle.floats.proofs.Rows.{any-default}
 use Rattle.floats.proofs.entry.Statement.{statement}
 use Rattle.floats.proofs.entry.Tie as tie
 

@@ -1,6 +1,6 @@
 -- `commit`: the blocks of the first j links are laid. Assumes nothing.
 use Rattle.kinematics.proofs.Laid.{laid-more, laid-none, laid-skip}
-use Rattle.kinematics.specs.State.{blocksOf, laid, marked}
+use Rattle.kinematics.specs.State.{blocksOf, marked, blocksLaid}
 use lib.ListN.{length}
 use Prim.Native.Nat.{_+_, _-_, _≤_, ℕ}
 use mathlib.Core.Logic.{⊎-elim}
@@ -11,7 +11,7 @@ use Rattle.kinematics.proofs.commit.Statement.{statement}
 use Rattle.kinematics.proofs.commit.Tie as tie
 
 abbrev Inv-loop : tie.InvT-loop
-Inv-loop n work tables₀ marks j₀ tables j = (j ≤ n) × (length tables ≡ length tables₀) × (tables ≡ laid (marked marks) (blocksOf work) j tables₀)
+Inv-loop n work tables₀ marks j₀ tables j = (j ≤ n) × (length tables ≡ length tables₀) × (tables ≡ blocksLaid (marked marks) (blocksOf work) j tables₀)
 
 abbrev μ-loop : tie.MeasureT-loop
 μ-loop n work tables₀ marks j₀ tables j = n - j
@@ -53,7 +53,7 @@ same-length c = search needs
 returns : tie.Need-returns Inv-loop μ-loop
 returns c =
     let e : c .before .loop .j ≡ c .before .before .before .before .args .n = omega arith in
-    c .before .loop .inv .2 ∙ ap (λ (k : ℕ). laid (marked (c .before .before .before .before .args .t1)) (blocksOf (c .before .before .before .before .args .work .now)) k (c .before .before .before .before .args .tables .now)) e
+    c .before .loop .inv .2 ∙ ap (λ (k : ℕ). blocksLaid (marked (c .before .before .before .before .args .t1)) (blocksOf (c .before .before .before .before .args .work .now)) k (c .before .before .before .before .args .tables .now)) e
 
 pub commit-spec : {M : Type 1} → statement M
 commit-spec =

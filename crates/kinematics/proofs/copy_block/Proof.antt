@@ -1,5 +1,5 @@
 -- `copy_block` copies a part of one list into another. Assumes nothing.
-use Rattle.kinematics.proofs.Blocks.{copied-across}
+use Rattle.floats.proofs.Parts.{copied-across}
 use Rattle.limits.specs.Limits.{blockSize}
 use borrow.Author.Needs.{needs}
 use Rattle.kinematics.proofs.copy_block.Statement.{statement}

@@ -1,9 +1,9 @@
 -- `copy_kept`: all of the zeros are laid over, or none. Assumes nothing.
-use Rattle.kinematics.proofs.Blocks.{part-length}
 use mathlib.Core.Path.{_∙_, _≡_, ap, sym}
 use native.Mathlib.Omega.{arith}
 use Prim.Native.Nat.{ℕ, _+_, _*_, _-_}
 use lib.ListN.{length, take, drop, length-replicate}
+use Rattle.lists.proofs.Parts.{part-length}
 use Rattle.limits.specs.Limits.{linkLimit, blockSize}
 use Rattle.floats.specs.Floats.{zero32, overlaid}
 use Rattle.floats.proofs.Rows.{overlaid-whole}

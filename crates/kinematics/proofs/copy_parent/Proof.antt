@@ -1,5 +1,5 @@
 -- `copy_parent`: a later link's block from the one list or the other, a root's zeros. Assumes nothing.
-use Rattle.kinematics.proofs.Blocks.{copied-across, copied-in}
+use Rattle.floats.proofs.Parts.{copied-across, copied-in}
 use Rattle.kinematics.specs.Blocks.{copiedFrom, zeroBlock}
 use borrow.Author.Tests.{le-ltb, lt-ltb}
 use lib.ListN.{length-replicate}

@@ -1,7 +1,7 @@
 -- `put_block` copies a block into its part of the tables. Assumes nothing.
-use Rattle.kinematics.proofs.Blocks.{copied-in}
 use native.Mathlib.Omega.{arith}
 use Prim.Native.Nat.{_*_}
+use Rattle.floats.proofs.Parts.{copied-in}
 use Rattle.limits.specs.Limits.{blockSize}
 use borrow.Author.Needs.{needs}
 use Rattle.kinematics.proofs.put_block.Statement.{statement}

@@ -1,6 +1,7 @@
 -- `work_out`: the first j links have had their turn; their blocks are laid over the work area. Assumes nothing.
+use Rattle.arm.specs.Arm.{noLink}
 use Rattle.kinematics.proofs.Turns.{Held, held-all, held-more, held-none, held-skip, start-room}
-use Rattle.kinematics.specs.State.{marked, noLink}
+use Rattle.kinematics.specs.State.{marked}
 use lib.ListN.{getD}
 use Prim.Native.Nat.{_-_}
 use mathlib.Core.Logic.{⊎-elim}

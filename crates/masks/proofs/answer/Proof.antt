@@ -1,6 +1,6 @@
 -- `answer` gives the count where there is no refusal, else the refusal and a zero count. Assumes nothing.
 use borrow.Author.Needs.{needs}
-use Rattle.masks.proofs.Answers.{counted-none, counted-some}
+use Rattle.refusal.proofs.Answers.{counted-none, counted-some}
 use Rattle.masks.proofs.answer.Statement.{statement}
 use Rattle.masks.proofs.answer.Tie as tie
 

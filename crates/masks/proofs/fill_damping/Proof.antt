@@ -4,7 +4,7 @@ use mathlib.Core.Logic.{⊎-elim}
 use mathlib.Core.Path.{_≡_, _∙_, sym, ap}
 use Prim.Native.Nat.{_-_, _≤_, ℕ}
 use borrow.Author.Needs.{needs}
-use Rattle.masks.specs.Answers.{laid}
+use Rattle.lists.specs.Lists.{laid}
 use Rattle.masks.specs.Masks.{dofsBelow, dofsOf, dampingBelow, dampingRow}
 use Rattle.masks.proofs.Fills.{Damped, damped-none, damped-free, damped-locked}
 use Rattle.masks.proofs.Laws.{below-free, dofs-le}

@@ -4,7 +4,7 @@ use mathlib.Core.Path.{_∙_, _≡_, refl, ap}
 use Prim.Native.Nat.{_-_, _≤_, ℕ}
 use lib.ListN.{getD, length, length-set}
 use borrow.Author.Needs.{needs}
-use Rattle.masks.specs.Answers.{laid}
+use Rattle.lists.specs.Lists.{laid}
 use Rattle.masks.specs.Starts.{startOf, startsTo, totalOf, startsOf}
 use Rattle.masks.proofs.Fills.{starts-more, laid-none}
 use Rattle.masks.proofs.Laws.{dofs-le}

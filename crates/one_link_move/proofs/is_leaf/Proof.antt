@@ -1,5 +1,5 @@
 -- `is_leaf`: what is tested so far. Assumes nothing.
-use Rattle.topology.specs.Tables.{allBelow}
+use Rattle.lists.specs.Numbers.{allBelow}
 use Rattle.one_link_move.proofs.Leaf.{leaf-more}
 use Rattle.one_link_move.specs.Move.{leaf, noChild}
 use lib.Seq.{length-take-le}

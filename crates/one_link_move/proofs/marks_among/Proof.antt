@@ -2,8 +2,8 @@
 use mathlib.Core.List.{List}
 use mathlib.Core.Path.{_∙_, ap, refl}
 use Prim.Native.Nat.{ℕ}
+use Rattle.lists.proofs.Lists.{front}
 use Rattle.topology.specs.Parents.{marks}
-use Rattle.arm.proofs.Lists.{front}
 use borrow.Author.Needs.{needs}
 use Rattle.one_link_move.proofs.marks_among.Statement.{statement}
 use Rattle.one_link_move.proofs.marks_among.Tie as tie

@@ -7,8 +7,8 @@ use mathlib.Core.Path.{_∙_, ap, refl, sym}
 use native.Mathlib.Omega.{arith}
 use Rattle.arm.specs.declared.Edited.{Edited}
 use Rattle.arm.proofs.Shape.{links-length}
-use Rattle.working.specs.Outcome.{out}
-use Rattle.working.proofs.Refused.{refused}
+use Rattle.full_working.specs.Outcome.{out}
+use Rattle.full_working.proofs.Refused.{refused}
 use borrow.Author.Needs.{needs}
 use Rattle.one_link_move.proofs.move_link.Statement.{statement}
 use Rattle.one_link_move.proofs.move_link.Tie as tie

@@ -3,12 +3,12 @@ use Prim.Native.Nat.{ℕ}
 use mathlib.Core.Path.{ap, ap₂, _∙_}
 use mathlib.Core.Bool.{_&&_}
 use mathlib.Core.List.{List}
+use Rattle.topology.specs.Parents.{parentIn}
 use Rattle.refusal.proofs.Laws.{lowered}
 use Rattle.refusal.proofs.Tests.{tested}
-use Rattle.topology.specs.Parents.{parentOf}
 use Rattle.arm.proofs.Shape.{links-length}
 use Rattle.arm.proofs.Handed.{found-refusal, found-parents, found-mask}
-use Rattle.settled.specs.Above.{aboveFinite}
+use Rattle.one_link.specs.Above.{aboveFinite}
 use Rattle.one_link_move.specs.declared.ChangeTests.{ChangeTests}
 use Rattle.one_link_move.specs.Move.{testsOf, moveRefusal}
 use borrow.Author.Needs.{needs}
@@ -82,7 +82,7 @@ returns c =
     let h = c .before .before .before .before .before .before .before .before .before .before .before .before .before .before .before .before .before .before .before .before .before .before .before .before .args .handed in
     let w = links-length a (c .before .before .before .before .before .before .before .before .before .before .before .before .before .before .before .before .before .before .before .before .before .before .before .before .good .0) in
     let t = c .before .before .before .before .before .before .before .before .before .before .before .before .before .before .before .before .before .before .before .change-tests .ensures ∙ ap (λ (m : ℕ). testsOf m (c .before .before .before .before .before .before .before .before .before .before .before .before .before .before .before .before .before .before .before .before .before .before .before .before .args .change)) (c .before .before .before .before .before .before .before .before .before .before .before .before .before .before .before .before .before .before .before .before .mask-among .ensures ∙ found-mask a w h (c .before .before .before .before .before .before .before .before .before .before .before .before .before .before .before .before .before .before .before .before .before .before .before .before .pre) (c .before .before .before .before .before .before .before .before .before .before .before .before .before .before .before .before .before .before .before .before .before .before .before .before .args .link)) in
-    let p = c .before .before .before .before .before .before .before .before .before .before .before .before .before .before .before .before .before .before .parent-among .ensures ∙ ap (λ (ps : List ℕ). parentOf ps (c .before .before .before .before .before .before .before .before .before .before .before .before .before .before .before .before .before .before .before .before .before .before .before .before .args .link)) (found-parents a w h (c .before .before .before .before .before .before .before .before .before .before .before .before .before .before .before .before .before .before .before .before .before .before .before .before .pre)) in
+    let p = c .before .before .before .before .before .before .before .before .before .before .before .before .before .before .before .before .before .before .parent-among .ensures ∙ ap (λ (ps : List ℕ). parentIn ps (c .before .before .before .before .before .before .before .before .before .before .before .before .before .before .before .before .before .before .before .before .before .before .before .before .args .link)) (found-parents a w h (c .before .before .before .before .before .before .before .before .before .before .before .before .before .before .before .before .before .before .before .before .before .before .before .before .pre)) in
     let above = c .before .before .before .before .before .before .before .before .before .before .before .before .before .before .before .before .before .is-finite-above .ensures ∙ ap (λ (k : ℕ). aboveFinite (c .before .before .before .before .before .before .before .before .before .before .before .before .before .before .before .before .before .before .before .before .before .before .before .before .args .link) k (c .before .before .before .before .before .before .before .before .before .before .before .before .before .before .before .before .before .before .before .before .before .before .before .before .args .tables .now)) p in
     lowered (c .lower7 .ensures) (c .before .before .before .before .before .before .before .before .before .before .before .before .before .before .before .unless .ensures ∙ tested 1 (c .before .before .before .before .before .before .before .before .before .before .before .before .before .before .before .before .tables-fit .ensures))
     (lowered (c .before .lower6 .ensures) (c .before .before .before .before .before .before .before .before .before .before .before .before .before .unless2 .ensures)

@@ -6,8 +6,8 @@ use lib.Ieee.{Float}
 use borrow.Author.Needs.{needs}
 use Rattle.planar.specs.declared.Pose.{Pose}
 use Rattle.arm.specs.declared.Arm.{Arm}
-use Rattle.working.specs.Outcome.{Outcome, workedAll}
-use Rattle.working.proofs.Refused.{accepted, refused}
+use Rattle.full_working.specs.Outcome.{Outcome, workedAll}
+use Rattle.full_working.proofs.Refused.{accepted, refused}
 use Rattle.root_change.specs.Root.{rootChanged, rootRefusal, changedRoot}
 use Rattle.root_change.proofs.change_root.Statement.{statement}
 use Rattle.root_change.proofs.change_root.Tie as tie

@@ -12,7 +12,7 @@ use Rattle.planar.specs.declared.Pose.{Pose}
 use Rattle.planar.specs.Poses.{rotationOf, isTurn, finitePose}
 use Rattle.arm.specs.declared.Arm.{Arm}
 use Rattle.arm.specs.HandedIn.{armRefusal}
-use Rattle.working.specs.Outcome.{tablesFit}
+use Rattle.full_working.specs.Outcome.{tablesFit}
 use Rattle.root_change.specs.Root.{isRootMask, rootRefusal}
 use Rattle.root_change.proofs.root_refusal.Statement.{statement}
 use Rattle.root_change.proofs.root_refusal.Tie as tie

@@ -1,10 +1,10 @@
 -- `at_or_below`: the marks so far are right, and the rest is as made: false. Assumes nothing.
-use Rattle.topology.proofs.Tables.{Filled, filled-at, filled-more, filled-none}
+use Rattle.lists.proofs.Numbers.{Filled, filled-at, filled-more, filled-none}
 use Rattle.topology.proofs.Branch.{mark-alone, mark-more, marks-full}
 use mathlib.Core.Bool.{false}
 use Rattle.limits.specs.Limits.{linkLimit}
 use mathlib.Core.Logic.{⊎-elim}
-use Rattle.topology.specs.Parents.{atOrBelow, marks, parentOf}
+use Rattle.topology.specs.Parents.{atOrBelow, marks, parentIn}
 use lib.ListN.{length, replicate}
 use Prim.Native.Nat.{min, _-_, _≤_}
 use mathlib.Core.Path.{_≡_, sym}
@@ -57,7 +57,7 @@ loop-again c =
       c .before .before .before .loop .inv .0,
       omega arith,
       ⊎-elim
-          (λ w. rw (w .1) (more _ (omega arith) t (rw (filled-at f (replicate linkLimit false) j (c .before .before .before .loop .marks) (parentOf ps j) false t (w .0 .taken)) (sym (mark-more ps i j (omega arith) (w .0 .taken))))))
+          (λ w. rw (w .1) (more _ (omega arith) t (rw (filled-at f (replicate linkLimit false) j (c .before .before .before .loop .marks) (parentIn ps j) false t (w .0 .taken)) (sym (mark-more ps i j (omega arith) (w .0 .taken))))))
           (λ w. rw (w .1) (more _ (omega arith) t (sym (mark-alone ps i j (omega arith) (w .0 .left)))))
           (c .if1 .came),
     )

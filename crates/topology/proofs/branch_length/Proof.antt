@@ -1,6 +1,6 @@
 -- `branch_length`: the links left behind on the way up, with the branch of the link reached, are the branch. Assumes nothing.
 use Rattle.topology.proofs.Branch.{branch-alone, branch-longer, branch-none}
-use Rattle.topology.specs.Parents.{branch, parentOf}
+use Rattle.topology.specs.Parents.{branch, parentIn}
 use lib.ListN.{length}
 use Prim.Native.Nat.{_+_, _<_, _≤_, ℕ}
 use mathlib.Core.Path.{_≡_, ap, refl}
@@ -10,7 +10,7 @@ use Rattle.topology.proofs.branch_length.Statement.{statement}
 use Rattle.topology.proofs.branch_length.Tie as tie
 
 abbrev Inv-loop : tie.InvT-loop
-Inv-loop parents link j₀ p₀ n₀ j p n = (j < length parents) × (p ≡ parentOf parents j) × (n + j ≤ link + 1) × (link < length parents) × (length (branch parents link) + 1 ≡ n + length (branch parents j))
+Inv-loop parents link j₀ p₀ n₀ j p n = (j < length parents) × (p ≡ parentIn parents j) × (n + j ≤ link + 1) × (link < length parents) × (length (branch parents link) + 1 ≡ n + length (branch parents j))
 
 abbrev μ-loop : tie.MeasureT-loop
 μ-loop parents link j₀ p₀ n₀ j p n = j

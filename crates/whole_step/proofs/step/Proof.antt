@@ -5,8 +5,8 @@ use mathlib.Core.List.{List}
 use lib.Ieee.{Float}
 use borrow.Author.Needs.{needs}
 use Rattle.arm.specs.declared.Arm.{Arm}
-use Rattle.working.specs.Outcome.{Outcome, says, workedAll}
-use Rattle.working.proofs.Refused.{accepted, refused}
+use Rattle.full_working.specs.Outcome.{Outcome, says, workedAll}
+use Rattle.full_working.proofs.Refused.{accepted, refused}
 use Rattle.whole_step.specs.Step.{armAfter, stepRefusal, wholeStep}
 use Rattle.whole_step.proofs.step.Statement.{statement}
 use Rattle.whole_step.proofs.step.Tie as tie

@@ -9,7 +9,7 @@ use Rattle.refusal.specs.Refusal.{unlessOf, lowerOf}
 use Rattle.floats.specs.Floats.{isFinite}
 use Rattle.arm.specs.declared.Arm.{Arm}
 use Rattle.arm.specs.HandedIn.{armRefusal}
-use Rattle.working.specs.Outcome.{tablesFit}
+use Rattle.full_working.specs.Outcome.{tablesFit}
 use Rattle.whole_step.specs.declared.StepTests.{StepTests}
 use Rattle.whole_step.specs.Step.{stepRefusal, stepTestsOf}
 use Rattle.whole_step.proofs.step_refusal.Statement.{statement}
