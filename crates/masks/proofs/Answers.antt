@@ -1,15 +1,11 @@
--- What the entry points answer, refused or not, and what a passed list of refusals says. Assumes nothing.
-use Prim.Native.Nat.{ℕ, zero, suc, _≤_}
+-- What a passed list of refusals says. Assumes nothing.
+use Prim.Native.Nat.{ℕ, _≤_}
 use mathlib.Core.Path.{_≡_, refl}
 use mathlib.Core.Logic.{inl, inr}
 use mathlib.Core.List.{List, [], _∷_}
-use native.Mathlib.Omega.{arith}
 use borrow.Author.Tests.{leb-true}
 use lib.Dec.{leb}
 use lib.ListN.{length}
-use Rattle.lists.specs.Lists.{laid}
-use Rattle.refusal.specs.Counted.{countedOf, out, filled}
-use Rattle.refusal.specs.declared.Counted.{Counted}
 use Rattle.limits.specs.Limits.{linkLimit}
 use Rattle.refusal.specs.Refusal.{unlessOf}
 use Rattle.refusal.proofs.Laws.{is-lowest}
@@ -17,28 +13,6 @@ use Rattle.refusal.proofs.Tests.{holds}
 use Rattle.masks.specs.Masks.{isMask, dofsOf}
 use Rattle.masks.specs.Starts.{allMasks}
 use Rattle.masks.specs.Answers.{startsRefusal, dampingRefusal}
-
-pub counted-none : (k n : ℕ) → k ≡ 0 → record { refusal = 0; count = n } ≡ countedOf k n
-unfolding countedOf
-counted-none zero n h = refl
-counted-none (suc k) n h = absurd (omega arith)
-
-pub counted-some : (k n : ℕ) → (k ≡ 0 → ⊥) → record { refusal = k; count = 0 } ≡ countedOf k n
-unfolding countedOf
-counted-some zero n h = absurd (h refl)
-counted-some (suc k) n h = refl
-
-pub filled-none : {A : Type 0} (k n : ℕ) (row lent l : List A) (r : Counted) → k ≡ 0 → r ≡ countedOf 0 n → l ≡ laid row lent
-    → out r l ≡ filled k n row lent
-unfolding filled
-filled-none zero n row lent l r h p q = rw (p, q)
-filled-none (suc k) n row lent l r h p q = absurd (omega arith)
-
-pub filled-some : {A : Type 0} (k n : ℕ) (row lent : List A) (r : Counted) → (k ≡ 0 → ⊥) → r ≡ countedOf k 0
-    → out r lent ≡ filled k n row lent
-unfolding filled countedOf
-filled-some zero n row lent r h p = absurd (h refl)
-filled-some (suc k) n row lent r h p = rw p
 
 -- accepted starts fit the lent memory, and an arm
 pub starts-fit : (masks : List ℕ) (room : ℕ) → startsRefusal masks room ≡ 0 → (length masks ≤ linkLimit) × (length masks ≤ room)

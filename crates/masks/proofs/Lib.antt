@@ -2,4 +2,3 @@ pub mod Laws
 pub mod Totals
 pub mod Fills
 pub mod Answers
-pub mod Tests

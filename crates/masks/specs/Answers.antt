@@ -1,49 +1,28 @@
 -- What the entry points answer: a refusal and a zero count, or 0 and what was counted.
-use Prim.Native.Nat.{ℕ, zero, suc}
+use Prim.Native.Nat.{ℕ}
 use mathlib.Core.Bool.{_&&_}
-use mathlib.Core.List.{List, [], _∷_, _++_}
+use mathlib.Core.List.{List, [], _∷_}
 use lib.Dec.{leb}
-use lib.ListN.{length, drop}
+use lib.ListN.{length}
 use lib.Ieee.{Float}
 use Rattle.refusal.specs.declared.Counted.{Counted}
 use Rattle.limits.specs.Limits.{linkLimit}
 use Rattle.refusal.specs.Refusal.{unlessOf, lowest}
+use Rattle.refusal.specs.Counted.{countedOf, Outcome, filled}
 use Rattle.masks.specs.Masks.{isMask, isAxis, one, isFree, dofsBelow, dofsOf, dampingRow, constraintsOf}
 use Rattle.masks.specs.Starts.{allMasks, startsOf, totalOf}
 
--- a count, unless there is a refusal
-unfoldable pub counted : ℕ → ℕ → Counted
-counted zero n = record { refusal = 0; count = n }
-counted (suc k) n = record { refusal = suc k; count = 0 }
-
--- a row laid over the front of lent memory; what lies past it stays
-unfoldable pub laid : {A : Type 0} → List A → List A → List A
-laid row lent = row ++ drop (length row) lent
-
--- the answer of a call and what the memory lent to it then holds
-pub record Outcome (A : Type 0) : Type 0 where
-  pub answer : Counted
-  pub memory : List A
-
-abbrev pub out : {A : Type 0} → Counted → List A → Outcome A
-out answer memory = record { answer = answer; memory = memory }
-
--- n was counted and the row is laid over the memory, unless there is a refusal
-unfoldable pub filled : {A : Type 0} → ℕ → ℕ → List A → List A → Outcome A
-filled zero n row lent = out (counted 0 n) (laid row lent)
-filled (suc k) n row lent = out (counted (suc k) n) lent
-
 -- `free_axis`: is an axis of a mask free, 1 or 0
 unfoldable pub freeAnswer : ℕ → ℕ → Counted
-freeAnswer mask axis = counted (lowest (unlessOf (isMask mask && isAxis axis) 5 ∷ [])) (one (isFree mask axis))
+freeAnswer mask axis = countedOf (lowest (unlessOf (isMask mask && isAxis axis) 5 ∷ [])) (one (isFree mask axis))
 
 -- `dof_count`: the DoFs of a mask
 unfoldable pub dofsAnswer : ℕ → Counted
-dofsAnswer mask = counted (lowest (unlessOf (isMask mask) 5 ∷ [])) (dofsOf mask)
+dofsAnswer mask = countedOf (lowest (unlessOf (isMask mask) 5 ∷ [])) (dofsOf mask)
 
 -- `dof_count_below`: the DoFs of a mask below an axis
 unfoldable pub belowAnswer : ℕ → ℕ → Counted
-belowAnswer mask axis = counted (lowest (unlessOf (isMask mask && isAxis axis) 5 ∷ [])) (dofsBelow mask axis)
+belowAnswer mask axis = countedOf (lowest (unlessOf (isMask mask && isAxis axis) 5 ∷ [])) (dofsBelow mask axis)
 
 -- what refuses `starts`: too little room for a place a mask, more masks than an arm has links, one that is none
 unfoldable pub startsRefusal : List ℕ → ℕ → ℕ
@@ -69,4 +48,4 @@ dampingAnswer mask lent = filled (dampingRefusal mask (length lent)) (dofsOf mas
 -- `num_velocity_constraints`: the velocity constraints of a joint
 unfoldable pub constraintsAnswer : ℕ → ℕ → ℕ → Counted
 constraintsAnswer locked limit motor =
-    counted (lowest (unlessOf (isMask locked && isMask limit && isMask motor) 5 ∷ [])) (constraintsOf locked limit motor)
+    countedOf (lowest (unlessOf (isMask locked && isMask limit && isMask motor) 5 ∷ [])) (constraintsOf locked limit motor)

@@ -1,14 +1,14 @@
 -- A list of masks: each one's start is the sum of the DoFs of all earlier ones.
 use Prim.Native.Nat.{ℕ, zero, suc, _+_}
-use mathlib.Core.Bool.{Bool, true, _&&_}
+use mathlib.Core.Bool.{Bool}
 use mathlib.Core.List.{List, [], _∷_, _++_}
 use lib.ListN.{length, take}
+use Rattle.lists.specs.Tests.{every}
 use Rattle.masks.specs.Masks.{isMask, dofsOf}
 
 -- each is a mask
 abbrev pub allMasks : List ℕ → Bool
-allMasks [] = true
-allMasks (m ∷ ms) = isMask m && allMasks ms
+allMasks ms = every isMask ms
 
 -- the sum of the DoFs
 unfoldable pub totalOf : List ℕ → ℕ

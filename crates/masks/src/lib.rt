@@ -1,7 +1,7 @@
 // Masks of a joint, locked, limit and motor: bit 0 is X, bit 1 is Y, bit 2 the angle. Bits above 2 never count.
 // Inner functions take a joint's bytes and refuse nothing. Entry points take masks and axes as any number, so that none is cut.
 ghost use mathlib.Core.Path.{_≡_};
-ghost use Prim.Native.Nat.{_<_, _≤_};
+ghost use Prim.Native.Nat.{_≤_};
 ghost use lib.ListN.{length};
 ghost use Rattle.lists.specs.Lists.{laid};
 ghost use Rattle.refusal.specs.Counted.{out, countedOf};
@@ -10,18 +10,13 @@ ghost use Rattle.masks.specs.Masks.{isMask, isAxis, bitOf, one, isFree, 
 ghost use Rattle.masks.specs.Starts.{allMasks, startsOf, totalOf};
 ghost use Rattle.masks.specs.Answers.{freeAnswer, dofsAnswer, belowAnswer, startsRefusal, startsAnswer, dampingRefusal, dampingAnswer, constraintsAnswer};
 use limits::LINKS;
+use refusal::Counted;
+use refusal::answer_count;
 use refusal::lower;
 use refusal::unless;
 
 // The default damping of a free angle.
 const ANGLE_DAMPING: f32 = 0.1;
-
-// What an entry point answers: a refusal and a zero count, or 0 and what was counted.
-#[repr(C)]
-pub struct Count {
-    pub refusal: u8,
-    pub count: u8,
-}
 
 // A mask is at most 7.
 pub fn is_mask(mask: u32) -> bool
@@ -105,41 +100,27 @@ pub fn axis_damping(axis: u8) -> f32
     if axis == 2 { ANGLE_DAMPING } else { 0.0 }
 }
 
-// The count, unless there is a refusal.
-fn answer(refusal: u8, count: usize) -> Count
-    requires { ⌜ count < 256 ⌝ }
-    ensures { λ r. ⌜ r ≡ countedOf refusal count ⌝ }
-{
-    if refusal == 0 {
-        return Count {
-            refusal: 0,
-            count: count as u8,
-        };
-    }
-    Count { refusal, count: 0 }
-}
-
 // Is an axis of a mask free? 1 or 0.
-pub fn free_axis(mask: u32, axis: u32) -> Count
+pub fn free_axis(mask: u32, axis: u32) -> Counted
     ensures { λ r. ⌜ r ≡ freeAnswer mask axis ⌝ }
 {
     let refusal = unless(is_mask(mask) & is_axis(axis), 5);
-    answer(refusal, one_if(free(mask, axis)))
+    answer_count(refusal, one_if(free(mask, axis)))
 }
 
 // The DoF count of a mask.
-pub fn dof_count(mask: u32) -> Count
+pub fn dof_count(mask: u32) -> Counted
     ensures { λ r. ⌜ r ≡ dofsAnswer mask ⌝ }
 {
-    answer(unless(is_mask(mask), 5), free_below(mask, 3))
+    answer_count(unless(is_mask(mask), 5), free_below(mask, 3))
 }
 
 // The DoFs of a mask below an axis.
-pub fn dof_count_below(mask: u32, axis: u32) -> Count
+pub fn dof_count_below(mask: u32, axis: u32) -> Counted
     ensures { λ r. ⌜ r ≡ belowAnswer mask axis ⌝ }
 {
     let refusal = unless(is_mask(mask) & is_axis(axis), 5);
-    answer(refusal, free_below(mask, axis))
+    answer_count(refusal, free_below(mask, axis))
 }
 
 // Is each at most 7?
@@ -181,14 +162,14 @@ fn starts_refusal(masks: &[u8], room: usize) -> u8
 }
 
 // The start of each mask of a bare list, a byte each, and the total. Any mask may come first: a bare list has no root.
-pub fn starts(masks: &[u8], lent: &mut [u8]) -> Count
+pub fn starts(masks: &[u8], lent: &mut [u8]) -> Counted
     ensures { λ r. ⌜ out r (now (lent .exit)) ≡ startsAnswer (now (masks .entry)) (now (lent .entry)) ⌝ }
 {
     let refusal = starts_refusal(masks, lent.len());
     if refusal == 0 {
-        return answer(0, fill_starts(masks, lent));
+        return answer_count(0, fill_starts(masks, lent));
     }
-    answer(refusal, 0)
+    answer_count(refusal, 0)
 }
 
 // The default damping of each free axis, rising, goes into the front of `lent`; returned is how many.
@@ -216,14 +197,14 @@ fn damping_refusal(mask: u32, room: usize) -> u8
 }
 
 // The default damping row of a mask: one entry for each DoF, rising.
-pub fn default_damping(mask: u32, lent: &mut [f32]) -> Count
+pub fn default_damping(mask: u32, lent: &mut [f32]) -> Counted
     ensures { λ r. ⌜ out r (now (lent .exit)) ≡ dampingAnswer mask (now (lent .entry)) ⌝ }
 {
     let refusal = damping_refusal(mask, lent.len());
     if refusal == 0 {
-        return answer(0, fill_damping(mask, lent));
+        return answer_count(0, fill_damping(mask, lent));
     }
-    answer(refusal, 0)
+    answer_count(refusal, 0)
 }
 
 // One for the axis' limit bit and one for its motor bit, if the axis is free.
@@ -236,12 +217,12 @@ fn constraints_at(locked: u32, limit: u32, motor: u32, axis: u32) -> usize
 }
 
 // How many velocity constraints a joint's limits and motors make.
-pub fn num_velocity_constraints(locked: u32, limit: u32, motor: u32) -> Count
+pub fn num_velocity_constraints(locked: u32, limit: u32, motor: u32) -> Counted
     ensures { λ r. ⌜ r ≡ constraintsAnswer locked limit motor ⌝ }
 {
     let refusal = unless(is_mask(locked) & is_mask(limit) & is_mask(motor), 5);
     let x = constraints_at(locked, limit, motor, 0);
     let y = constraints_at(locked, limit, motor, 1);
     let angle = constraints_at(locked, limit, motor, 2);
-    answer(refusal, x + y + angle)
+    answer_count(refusal, x + y + angle)
 }

@@ -15,19 +15,44 @@ use Rattle.multibody_joint.specs.declared.Joint.{Joint}
 abbrev pub coordinateOf : Joint → ℕ → Float
 coordinateOf j axis = getD (j .coordinates) axis nan
 
--- the joint with other coordinates and another rotation
-abbrev pub withMotion : Joint → List Float → Rotation → Joint
-withMotion j coordinates rotation = record {
+-- ---- made, and changed: here alone every field is named
+
+-- coordinates and springs zero, rotation identity
+unfoldable pub newJoint : ℕ → ℕ → ℕ → Pose → Pose → Joint
+newJoint locked limit motor first second = record {
+  locked = locked;
+  limit = limit;
+  motor = motor;
+  frame1 = first;
+  frame2 = second;
+  coordinates = replicate 3 zero32;
+  rotation = rotationOf identityPose;
+  stiffness = replicate 3 zero32;
+  rest = replicate 3 zero32;
+}
+
+-- the joint with other frames, coordinates, rotation and springs
+abbrev pub jointWith : Joint → Pose → Pose → List Float → Rotation → List Float → List Float → Joint
+jointWith j first second coordinates rotation stiffness rest = record {
   locked = j .locked;
   limit = j .limit;
   motor = j .motor;
-  frame1 = j .frame1;
-  frame2 = j .frame2;
+  frame1 = first;
+  frame2 = second;
   coordinates = coordinates;
   rotation = rotation;
-  stiffness = j .stiffness;
-  rest = j .rest;
+  stiffness = stiffness;
+  rest = rest;
 }
+
+abbrev pub withFrames : Joint → Pose → Pose → Joint
+withFrames j first second = jointWith j first second (j .coordinates) (j .rotation) (j .stiffness) (j .rest)
+
+abbrev pub withMotion : Joint → List Float → Rotation → Joint
+withMotion j coordinates rotation = jointWith j (j .frame1) (j .frame2) coordinates rotation (j .stiffness) (j .rest)
+
+abbrev pub withSprings : Joint → List Float → List Float → Joint
+withSprings j stiffness rest = jointWith j (j .frame1) (j .frame2) (j .coordinates) (j .rotation) stiffness rest
 
 -- ---- body_to_parent
 
@@ -48,31 +73,11 @@ bodyToParent j =
 
 -- mask 0, frames identity, springs and other masks zero, at the pose; angle coordinate 0
 unfoldable pub freeJoint : Pose → Joint
-freeJoint p = record {
-  locked = 0;
-  limit = 0;
-  motor = 0;
-  frame1 = identityPose;
-  frame2 = identityPose;
-  coordinates = p .x ∷ p .y ∷ zero32 ∷ [];
-  rotation = rotationOf p;
-  stiffness = replicate 3 zero32;
-  rest = replicate 3 zero32;
-}
+freeJoint p = withMotion (newJoint 0 0 0 identityPose identityPose) (p .x ∷ p .y ∷ zero32 ∷ []) (rotationOf p)
 
 -- mask 7, frame 1 the pose, frame 2 and rotation identity, coordinates, springs and other masks zero
 unfoldable pub fixedJoint : Pose → Joint
-fixedJoint p = record {
-  locked = 7;
-  limit = 0;
-  motor = 0;
-  frame1 = p;
-  frame2 = identityPose;
-  coordinates = replicate 3 zero32;
-  rotation = rotationOf identityPose;
-  stiffness = replicate 3 zero32;
-  rest = replicate 3 zero32;
-}
+fixedJoint p = newJoint 7 0 0 p identityPose
 
 -- x, y and the rotation; the third coordinate stays
 unfoldable pub freePosSet : Joint → Pose → Joint

@@ -7,24 +7,11 @@ use lib.Ieee.{nan}
 use Rattle.floats.specs.Floats.{zero32}
 use Rattle.multibody_joint.specs.declared.Joint.{Joint}
 use Rattle.multibody_joint.specs.declared.Spring.{Spring}
-
--- the joint with the spring of an axis set
-abbrev pub withSpring : Joint → ℕ → Spring → Joint
-withSpring j axis s = record {
-  locked = j .locked;
-  limit = j .limit;
-  motor = j .motor;
-  frame1 = j .frame1;
-  frame2 = j .frame2;
-  coordinates = j .coordinates;
-  rotation = j .rotation;
-  stiffness = set (j .stiffness) axis (s .stiffness);
-  rest = set (j .rest) axis (s .rest);
-}
+use Rattle.multibody_joint.specs.Joint.{withSprings}
 
 -- there is no axis above 2
 unfoldable pub springSet : Joint → ℕ → Spring → Joint
-springSet j axis s = cond (leb axis 2) (withSpring j axis s) j
+springSet j axis s = cond (leb axis 2) (withSprings j (set (j .stiffness) axis (s .stiffness)) (set (j .rest) axis (s .rest))) j
 
 unfoldable pub springOf : Joint → ℕ → Spring
 springOf j axis =

@@ -1,7 +1,7 @@
 // A joint between a link and its parent: which axes are free, where its frames stand, and where it is along its axes.
 ghost use mathlib.Core.Path.{_≡_};
 ghost use Prim.Native.Nat.{_<_};
-ghost use Rattle.multibody_joint.specs.Joint.{slidBy, bodyToParent, freeJoint, fixedJoint, freePosSet};
+ghost use Rattle.multibody_joint.specs.Joint.{newJoint, withFrames, withMotion, slidBy, bodyToParent, freeJoint, fixedJoint, freePosSet};
 ghost use Rattle.multibody_joint.specs.Motion.{integratedAt, renewed, integrated, onAxis, onAxes};
 ghost use Rattle.multibody_joint.specs.Springs.{springSet, springOf};
 use floats::entry;
@@ -29,6 +29,48 @@ pub struct Joint {
 pub struct Spring {
     pub stiffness: f32,
     pub rest: f32,
+}
+
+// ---- Made, and changed
+
+// Coordinates and springs zero, rotation identity.
+pub fn new_joint(locked: u8, limit: u8, motor: u8, frame1: Pose, frame2: Pose) -> Joint
+    ensures { λ r. ⌜ r ≡ newJoint locked limit motor frame1 frame2 ⌝ }
+{
+    let zeros = [0.0f32; 3];
+    Joint {
+        locked,
+        limit,
+        motor,
+        frame1,
+        frame2,
+        coordinates: zeros,
+        rotation: rotation_of(identity()),
+        stiffness: zeros,
+        rest: zeros,
+    }
+}
+
+// The joint with other frames.
+pub fn with_frames(j: Joint, frame1: Pose, frame2: Pose) -> Joint
+    ensures { λ r. ⌜ r ≡ withFrames j frame1 frame2 ⌝ }
+{
+    Joint {
+        frame1,
+        frame2,
+        ..j
+    }
+}
+
+// The joint with other coordinates and another rotation.
+pub fn with_motion(j: Joint, coordinates: [f32; 3], rotation: Rotation) -> Joint
+    ensures { λ r. ⌜ r ≡ withMotion j coordinates rotation ⌝ }
+{
+    Joint {
+        coordinates,
+        rotation,
+        ..j
+    }
 }
 
 // ---- Its pose
@@ -94,12 +136,7 @@ pub fn integrate(j: Joint, velocities: &[f32], dt: f32) -> Joint
     let x = integrated_at(j, 0, velocities, dt);
     let y = integrated_at(j, 1, velocities, dt);
     let angle = integrated_at(j, 2, velocities, dt);
-    let rotation = renewed_rotation(j, angle);
-    Joint {
-        coordinates: [x, y, angle],
-        rotation,
-        ..j
-    }
+    with_motion(j, [x, y, angle], renewed_rotation(j, angle))
 }
 
 // An axis' entry of the accelerations, and +0 on a locked one.
@@ -128,36 +165,15 @@ pub fn jacobian_mul_coordinates(j: Joint, accelerations: &[f32]) -> [f32; 3]
 pub fn free(p: Pose) -> Joint
     ensures { λ r. ⌜ r ≡ freeJoint p ⌝ }
 {
-    let zeros = [0.0f32; 3];
-    Joint {
-        locked: 0,
-        limit: 0,
-        motor: 0,
-        frame1: identity(),
-        frame2: identity(),
-        coordinates: [p.x, p.y, 0.0],
-        rotation: rotation_of(p),
-        stiffness: zeros,
-        rest: zeros,
-    }
+    let joint = new_joint(0, 0, 0, identity(), identity());
+    with_motion(joint, [p.x, p.y, 0.0], rotation_of(p))
 }
 
 // A fixed joint at a pose.
 pub fn fixed(p: Pose) -> Joint
     ensures { λ r. ⌜ r ≡ fixedJoint p ⌝ }
 {
-    let zeros = [0.0f32; 3];
-    Joint {
-        locked: 7,
-        limit: 0,
-        motor: 0,
-        frame1: p,
-        frame2: identity(),
-        coordinates: zeros,
-        rotation: rotation_of(identity()),
-        stiffness: zeros,
-        rest: zeros,
-    }
+    new_joint(7, 0, 0, p, identity())
 }
 
 // x, y and the rotation are the pose's; the third coordinate stays.
@@ -165,13 +181,7 @@ pub fn set_free_pos(j: Joint, p: Pose) -> Joint
     ensures { λ r. ⌜ r ≡ freePosSet j p ⌝ }
 {
     let coordinates = j.coordinates;
-    let angle = coordinates[2];
-    let rotation = rotation_of(p);
-    Joint {
-        coordinates: [p.x, p.y, angle],
-        rotation,
-        ..j
-    }
+    with_motion(j, [p.x, p.y, coordinates[2]], rotation_of(p))
 }
 
 // ---- Its springs

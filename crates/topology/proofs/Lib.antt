@@ -1,4 +1,3 @@
-pub mod Tables
 pub mod Fitting
 pub mod Branch
 pub mod Written

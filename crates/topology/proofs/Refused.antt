@@ -1,5 +1,5 @@
 -- The two calls' answers: a refusal is the lowest of four tests, none where all of them hold.
-use Prim.Native.Nat.{ℕ, zero, suc, _*_, _/_, _≤_, _<_}
+use Prim.Native.Nat.{ℕ, _*_, _/_, _≤_, _<_}
 use mathlib.Core.Path.{_≡_, refl, sym, _∙_}
 use mathlib.Core.Bool.{Bool, true}
 use mathlib.Core.Logic.{inl, inr}
@@ -9,11 +9,12 @@ use native.Mathlib.Decide.{decLt}
 use borrow.Author.Tests.{leb-true, ltb-true, le-leb, lt-leb}
 use lib.ListN.{length, drop}
 use lib.Dec.{leb, ltb}
-use Rattle.refusal.specs.Counted.{out, filled}
+use Rattle.refusal.specs.Counted.{out}
 use Rattle.limits.specs.Limits.{linkLimit}
 use Rattle.refusal.specs.Refusal.{unlessOf}
 use Rattle.refusal.proofs.Laws.{is-lowest}
 use Rattle.refusal.proofs.Tests.{holds}
+use Rattle.refusal.proofs.Answers.{counted-none, counted-some, filled-none, filled-some}
 use Rattle.topology.specs.declared.Split.{Split}
 use Rattle.topology.specs.Parents.{parentsFit, branch}
 use Rattle.topology.specs.Split.{linkOf, partCount, splitMap}
@@ -37,24 +38,14 @@ accepted ps link enough r e z =
       fit = holds (parentsFit ps) 3 (none _ (inr (inr (inr (inl refl)))));
     }
 
-refused : (k n : ℕ) (bytes m : List ℕ) → (k ≡ 0 → ⊥) → out (record { refusal = k; count = 0 }) m ≡ filled k n bytes m
-unfolding filled
-refused zero n bytes m h = absurd (h refl)
-refused (suc k) n bytes m h = refl
-
-done : (k n : ℕ) (bytes m to : List ℕ) → k ≡ 0 → to ≡ bytes ++ drop (length bytes) m → out (record { refusal = 0; count = n }) to ≡ filled k n bytes m
-unfolding filled
-done zero n bytes m to h e = rw e
-done (suc k) n bytes m to h e = absurd (omega arith)
-
 module _ (ps : List ℕ) (link : ℕ) (m : List ℕ) (n r : ℕ) (long : n ≡ length (branch ps link)) (e : r ≡ refusalOf ps link (leb n (length m))) where
   pub branch-refused : (r ≡ 0 → ⊥) → out (record { refusal = r; count = 0 }) m ≡ branchAnswer ps link m
   unfolding branchAnswer
-  branch-refused h = rw (← long, ← e) (refused r n (branch ps link) m h)
+  branch-refused h = rw (← long, ← e) (filled-some r n 0 (branch ps link) m _ h (counted-some r 0 h))
 
   pub branch-done : r ≡ 0 → (to : List ℕ) → to ≡ branch ps link ++ drop n m → out (record { refusal = 0; count = n }) to ≡ branchAnswer ps link m
   unfolding branchAnswer
-  branch-done h to q = rw (← long, ← e) (done r n (branch ps link) m to h (rw long at q))
+  branch-done h to q = rw (← long, ← e) (filled-none r n (branch ps link) m to _ h (counted-none 0 _ refl) (rw long at q))
 
 -- two bytes for each of n
 pub half : (n m : ℕ) → leb n (m / 2) ≡ leb (2 * n) m
@@ -72,8 +63,8 @@ module _ (ps : List ℕ) (s : Split) (m : List ℕ) (link r : ℕ) (at : link �
 
   pub split-refused : (r ≡ 0 → ⊥) → out (record { refusal = r; count = 0 }) m ≡ splitAnswer ps s m
   unfolding splitAnswer
-  split-refused h = rw (← same-test) (refused r (partCount ps s) (splitMap ps s (length ps)) m h)
+  split-refused h = rw (← same-test) (filled-some r (partCount ps s) 0 (splitMap ps s (length ps)) m _ h (counted-some r 0 h))
 
   pub split-done : r ≡ 0 → (n : ℕ) (to : List ℕ) → n ≡ partCount ps s → to ≡ splitMap ps s (length ps) ++ drop (2 * length ps) m → out (record { refusal = 0; count = n }) to ≡ splitAnswer ps s m
   unfolding splitAnswer
-  split-done h n to c q = rw (c, ← same-test) (done r (partCount ps s) (splitMap ps s (length ps)) m to h (rw (map-length ps s (length ps)) q))
+  split-done h n to c q = rw (c, ← same-test) (filled-none r (partCount ps s) (splitMap ps s (length ps)) m to _ h (counted-none 0 _ refl) (rw (map-length ps s (length ps)) q))

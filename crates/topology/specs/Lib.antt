@@ -1,4 +1,3 @@
-pub mod Tables
 pub mod Above
 pub mod Parents
 pub mod Split

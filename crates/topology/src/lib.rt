@@ -13,15 +13,9 @@ ghost use Rattle.topology.specs.Numbered.{numbered};
 ghost use Rattle.topology.specs.Answers.{refusalOf, branchAnswer, splitAnswer};
 use limits::LINKS;
 use limits::fewer;
+use refusal::Counted;
 use refusal::lower;
 use refusal::unless;
-
-// A refusal, or 0 and a count.
-#[repr(C)]
-pub struct Counted {
-    pub refusal: u8,
-    pub count: usize,
-}
 
 // How an arm is split: a link is deleted, or its joint only is cut.
 pub enum Split {

@@ -1,17 +1,16 @@
 -- `all_masks`: what is tested so far, with what is left, is the whole test. Assumes nothing.
 use native.Mathlib.Omega.{arith}
-use mathlib.Core.Bool.{_&&_}
-use mathlib.Core.Path.{_∙_, _≡_, refl, sym}
+use mathlib.Core.Path.{refl}
 use Prim.Native.Nat.{_-_, _≤_}
-use lib.ListN.{drop, length}
+use lib.ListN.{length}
 use borrow.Author.Needs.{needs}
-use Rattle.masks.specs.Starts.{allMasks}
-use Rattle.masks.proofs.Tests.{tested-all, tested-more}
+use Rattle.lists.proofs.Every.{Tested, tested-all, tested-more}
+use Rattle.masks.specs.Masks.{isMask}
 use Rattle.masks.proofs.all_masks.Statement.{statement}
 use Rattle.masks.proofs.all_masks.Tie as tie
 
 abbrev Inv-loop : tie.InvT-loop
-Inv-loop masks ok₀ i₀ ok i = (i ≤ length masks) × (allMasks masks ≡ (ok && allMasks (drop i masks)))
+Inv-loop masks ok₀ i₀ ok i = (i ≤ length masks) × Tested isMask masks i ok
 
 abbrev μ-loop : tie.MeasureT-loop
 μ-loop masks ok₀ i₀ ok i = length masks - i
@@ -38,13 +37,13 @@ loop-again : tie.Need-loop-again Inv-loop μ-loop
 loop-again c =
     let k = c .before .before .before .loop in
     let ms = c .before .before .before .before .before .args .masks .now in
-    (omega arith, k .inv .1 ∙ tested-more (k .ok) (c .is-mask .result) ms (k .i) (omega arith) (c .is-mask .ensures))
+    (omega arith, tested-more isMask ms (k .i) (k .ok) (c .is-mask .result) 0 (omega arith) (c .is-mask .ensures) (k .inv .1))
 
 returns : tie.Need-returns Inv-loop μ-loop
 returns c =
     let k = c .before .loop in
     let ms = c .before .before .before .args .masks .now in
-    sym (k .inv .1 ∙ tested-all (k .ok) ms (k .i) (omega arith))
+    tested-all isMask ms (k .i) (k .ok) (omega arith) (k .inv .1)
 
 pub all-masks-spec : {M : Type 1} → statement M
 all-masks-spec =

@@ -15,8 +15,8 @@ damping-refusal-requires c κs = search needs
 fill-damping-requires : tie.Need-fill-damping-requires
 fill-damping-requires c κs = damping-fits _ _ (sym (c .before .before .damping-refusal .ensures) ∙ c .before .if1 .taken)
 
-answer-requires : tie.Need-answer-requires
-answer-requires c κs = omega (arith, c .before .before .fill-damping .ensures .0, dofs-le (c .before .before .before .before .before .before .before .args .mask))
+answer-count-requires : tie.Need-answer-count-requires
+answer-count-requires c κs = search needs
 
 same-length : tie.Need-same-length
 same-length c = search needs
@@ -25,12 +25,12 @@ returns : tie.Need-returns
 unfolding dampingAnswer
 returns c = filled-none _ _ _ _ _ _ (sym (c .before .before .before .before .before .before .damping-refusal .ensures) ∙ c .before .before .before .before .before .if1 .taken) (cc) (c .before .before .before .fill-damping .ensures .1)
 
-answer-requires-2 : tie.Need-answer-requires-2
-answer-requires-2 c κs = search needs
+answer-count-requires-2 : tie.Need-answer-count-requires-2
+answer-count-requires-2 c κs = search needs
 
 returns-2 : tie.Need-returns-2
 unfolding dampingAnswer
-returns-2 c = filled-some _ _ _ _ _ (λ z. c .before .if1 .left (c .before .before .damping-refusal .ensures ∙ z)) (cc)
+returns-2 c = filled-some _ _ 0 _ _ _ (λ z. c .before .if1 .left (c .before .before .damping-refusal .ensures ∙ z)) (cc)
 
 pub default-damping-spec : {M : Type 1} → statement M
 default-damping-spec =
@@ -38,8 +38,8 @@ default-damping-spec =
     (tie.spec
     damping-refusal-requires
     fill-damping-requires
-    answer-requires
+    answer-count-requires
     same-length
     returns
-    answer-requires-2
+    answer-count-requires-2
     returns-2)

@@ -14,8 +14,8 @@ unless-requires c κs = search needs
 free-below-requires : tie.Need-free-below-requires
 free-below-requires c κs = search needs
 
-answer-requires : tie.Need-answer-requires
-answer-requires c κs = search needs
+answer-count-requires : tie.Need-answer-count-requires
+answer-count-requires c κs = search needs
 
 returns : tie.Need-returns
 unfolding dofsAnswer dofsOf
@@ -24,4 +24,4 @@ returns c = cc
 pub dof-count-spec : {M : Type 1} → statement M
 dof-count-spec =
     tie.close
-    (tie.spec is-mask-requires unless-requires free-below-requires answer-requires returns)
+    (tie.spec is-mask-requires unless-requires free-below-requires answer-count-requires returns)

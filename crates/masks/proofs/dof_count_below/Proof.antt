@@ -16,8 +16,8 @@ unless-requires c κs = search needs
 free-below-requires : tie.Need-free-below-requires
 free-below-requires c κs = search needs
 
-answer-requires : tie.Need-answer-requires
-answer-requires c κs = search needs
+answer-count-requires : tie.Need-answer-count-requires
+answer-count-requires c κs = search needs
 
 returns : tie.Need-returns
 unfolding belowAnswer
@@ -31,5 +31,5 @@ dof-count-below-spec =
     is-axis-requires
     unless-requires
     free-below-requires
-    answer-requires
+    answer-count-requires
     returns)

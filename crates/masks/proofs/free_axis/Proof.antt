@@ -19,8 +19,8 @@ free-requires c κs = search needs
 one-if-requires : tie.Need-one-if-requires
 one-if-requires c κs = search needs
 
-answer-requires : tie.Need-answer-requires
-answer-requires c κs = search needs
+answer-count-requires : tie.Need-answer-count-requires
+answer-count-requires c κs = search needs
 
 returns : tie.Need-returns
 unfolding freeAnswer
@@ -35,5 +35,5 @@ free-axis-spec =
     unless-requires
     free-requires
     one-if-requires
-    answer-requires
+    answer-count-requires
     returns)

@@ -26,14 +26,14 @@ constraints-at-requires-2 c κs = search needs
 constraints-at-requires-3 : tie.Need-constraints-at-requires-3
 constraints-at-requires-3 c κs = search needs
 
-add-answer : tie.Need-add-answer
-add-answer c = search needs
+add-answer-count : tie.Need-add-answer-count
+add-answer-count c = search needs
 
-add-answer-2 : tie.Need-add-answer-2
-add-answer-2 c = search needs
+add-answer-count-2 : tie.Need-add-answer-count-2
+add-answer-count-2 c = search needs
 
-answer-requires : tie.Need-answer-requires
-answer-requires c κs = search needs
+answer-count-requires : tie.Need-answer-count-requires
+answer-count-requires c κs = search needs
 
 returns : tie.Need-returns
 unfolding constraintsAnswer constraintsOf
@@ -50,7 +50,7 @@ num-velocity-constraints-spec =
     constraints-at-requires
     constraints-at-requires-2
     constraints-at-requires-3
-    add-answer
-    add-answer-2
-    answer-requires
+    add-answer-count
+    add-answer-count-2
+    answer-count-requires
     returns)

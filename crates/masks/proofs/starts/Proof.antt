@@ -16,10 +16,8 @@ fill-starts-requires : tie.Need-fill-starts-requires
 fill-starts-requires c κs =
     starts-fit _ _ (sym (c .before .before .starts-refusal .ensures) ∙ c .before .if1 .taken)
 
-answer-requires : tie.Need-answer-requires
-answer-requires c κs =
-    let fit = starts-fit _ _ (sym (c .before .before .before .before .before .starts-refusal .ensures) ∙ c .before .before .before .before .if1 .taken) in
-    omega (arith, c .before .before .fill-starts .ensures .0, total-le (c .before .before .before .before .before .before .before .before .args .masks .now))
+answer-count-requires : tie.Need-answer-count-requires
+answer-count-requires c κs = search needs
 
 same-length : tie.Need-same-length
 same-length c = search needs
@@ -28,12 +26,12 @@ returns : tie.Need-returns
 unfolding startsAnswer
 returns c = filled-none _ _ _ _ _ _ (sym (c .before .before .before .before .before .before .starts-refusal .ensures) ∙ c .before .before .before .before .before .if1 .taken) (cc) (c .before .before .before .fill-starts .ensures .1)
 
-answer-requires-2 : tie.Need-answer-requires-2
-answer-requires-2 c κs = search needs
+answer-count-requires-2 : tie.Need-answer-count-requires-2
+answer-count-requires-2 c κs = search needs
 
 returns-2 : tie.Need-returns-2
 unfolding startsAnswer
-returns-2 c = filled-some _ _ _ _ _ (λ z. c .before .if1 .left (c .before .before .starts-refusal .ensures ∙ z)) (cc)
+returns-2 c = filled-some _ _ 0 _ _ _ (λ z. c .before .if1 .left (c .before .before .starts-refusal .ensures ∙ z)) (cc)
 
 pub starts-spec : {M : Type 1} → statement M
 starts-spec =
@@ -41,8 +39,8 @@ starts-spec =
     (tie.spec
     starts-refusal-requires
     fill-starts-requires
-    answer-requires
+    answer-count-requires
     same-length
     returns
-    answer-requires-2
+    answer-count-requires-2
     returns-2)

@@ -1,6 +1,6 @@
 -- `integrate`: its three coordinates and its rotation are the definition's. Assumes nothing.
-use borrow.Author.Needs.{needs}
 use Rattle.multibody_joint.specs.Motion.{integrated}
+use borrow.Author.Needs.{needs}
 use Rattle.multibody_joint.proofs.integrate.Statement.{statement}
 use Rattle.multibody_joint.proofs.integrate.Tie as tie
 
@@ -16,6 +16,9 @@ integrated-at-requires-3 c κs = search needs
 renewed-rotation-requires : tie.Need-renewed-rotation-requires
 renewed-rotation-requires c κs = search needs
 
+with-motion-requires : tie.Need-with-motion-requires
+with-motion-requires c κs = search needs
+
 returns : tie.Need-returns
 unfolding integrated
 returns c = cc
@@ -28,4 +31,5 @@ integrate-spec =
     integrated-at-requires-2
     integrated-at-requires-3
     renewed-rotation-requires
+    with-motion-requires
     returns)
