@@ -10,6 +10,8 @@ use lib.Dec.{eqb, ltb, leb}
 use lib.ListN.{length, take, drop, getD, set, length-map, length-append, length-replicate, length-drop, List·getD-append}
 use lib.Seq.{take-suc-set, getD-at}
 use lib.Ieee.{Float}
+use Rattle.arm.proofs.Accepted.{Accepted}
+use Rattle.arm.specs.Inner.{rowFinite}
 use Rattle.lists.proofs.Modified.{modify-every}
 use Rattle.lists.proofs.Every.{every-map, every-snoc}
 use Rattle.lists.specs.Tests.{every}
@@ -28,9 +30,8 @@ use Rattle.arm.specs.declared.Coupling.{Coupling}
 use Rattle.arm.specs.declared.Row.{Row}
 use Rattle.arm.specs.declared.Arm.{Arm}
 use Rattle.arm.specs.Arm.{liveLinks, linksOf, couplingsOf, tagOf, lockedOf, tagsOf, parentsOf, masksOf, dofCountOf, entriesTo, rowsOf, parentOf}
-use Rattle.arm.specs.HandedIn.{differs, isNew, unique, tagsUnique, parentsEarlier, couplingLinksFit, jointMasksFit, linkMasksFit, rootMaskFits, rootFits, linkFinite, rowsFinite, linkAngleFits, rowFinite}
+use Rattle.arm.specs.HandedIn.{differs, isNew, unique, tagsUnique, parentsEarlier, couplingLinksFit, jointMasksFit, linkMasksFit, rootMaskFits, rootFits, linkFinite, rowsFinite, linkAngleFits}
 use Rattle.arm.proofs.Live.{links-live, masks-live}
-use Rattle.one_link.proofs.Accepted.{Accepted}
 use Rattle.addition.specs.declared.NewLink.{NewLink}
 use Rattle.addition.specs.NewLink.{zeros, linkOf, entriesSet, rowsWith, addedInputs}
 use Rattle.addition.specs.Addition.{eachMask, masksFit}

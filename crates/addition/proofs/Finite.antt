@@ -8,6 +8,7 @@ use lib.Dec.{eqb}
 use lib.ListN.{length, take, drop}
 use lib.Seq.{take-at, length-take-le}
 use lib.Ieee.{Float, binary32, ofBits, ofFields, lt}
+use Rattle.arm.specs.Inner.{rowFinite}
 use Rattle.lists.proofs.Every.{every-drop, every-join, every-take}
 use Rattle.lists.specs.Lists.{laid}
 use Rattle.lists.proofs.Bools.{both-hold, both}
@@ -17,7 +18,7 @@ use Rattle.masks.specs.Masks.{isFree, dampingOf, dampingBelow, dampingRow}
 use Rattle.planar.specs.Rotation.{isBeyond}
 use Rattle.planar.specs.Poses.{rotationOf, translationOf, identityPose, finiteRotation, finitePoint, finitePose, origin}
 use Rattle.arm.specs.declared.Row.{Row}
-use Rattle.arm.specs.HandedIn.{jointFinite, linkFinite, angleFits, linkAngleFits, rowFinite}
+use Rattle.arm.specs.HandedIn.{jointFinite, linkFinite, angleFits, linkAngleFits}
 use Rattle.addition.specs.declared.NewLink.{NewLink}
 use Rattle.addition.specs.NewLink.{zeros, linkOf, entriesSet}
 use Rattle.addition.specs.Addition.{floatsFinite}

@@ -7,6 +7,7 @@ use native.Mathlib.Omega.{arith}
 use lib.ListN.{length, take, getD, set}
 use lib.Seq.{set-set}
 use lib.Ieee.{Float}
+use Rattle.arm.specs.Inner.{handedIn}
 use Rattle.limits.specs.Limits.{linkLimit, dofLimit}
 use Rattle.masks.specs.Starts.{startOf}
 use Rattle.arm.specs.declared.Arm.{Arm}
@@ -14,7 +15,6 @@ use Rattle.arm.specs.declared.HandedIn.{HandedIn}
 use Rattle.arm.specs.declared.Link.{Link}
 use Rattle.arm.specs.declared.Row.{Row}
 use Rattle.arm.specs.Arm.{liveLinks, masksOf, startAt, dofCountOf}
-use Rattle.arm.specs.HandedIn.{handedIn}
 use Rattle.arm.proofs.Handed.{found-masks}
 use Rattle.arm.proofs.Live.{start-whole}
 use Rattle.kinematics.specs.declared.Turned.{Turned}

@@ -7,6 +7,7 @@ use native.Mathlib.Nat.{zero-add, suc-add}
 use lib.ListN.{length, take, drop, length-set}
 use lib.Seq.{take-at, take-all, take-take, length-take-le}
 use lib.Ieee.{Float}
+use Rattle.arm.proofs.Accepted.{accepted}
 use Rattle.lists.proofs.Modified.{map-modify}
 use Rattle.arm.specs.Sized.{Sized}
 use Rattle.lists.specs.Lists.{laid, modify, withPart}
@@ -18,7 +19,6 @@ use Rattle.arm.specs.declared.Arm.{Arm}
 use Rattle.arm.specs.Arm.{couplingsOf, dofCountOf, entriesTo, rowsOf}
 use Rattle.arm.specs.Agree.{Agree}
 use Rattle.arm.proofs.Agree.{same-dofs}
-use Rattle.one_link.proofs.Accepted.{accepted}
 use Rattle.addition.specs.declared.NewLink.{NewLink}
 use Rattle.addition.specs.NewLink.{zeros, linkOf, entriesSet, rowsWith, addedInputs}
 use Rattle.addition.proofs.Tests.{Passed}

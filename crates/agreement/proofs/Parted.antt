@@ -7,6 +7,8 @@ use native.Mathlib.Omega.{arith}
 use lib.ListN.{take, drop, getD}
 use lib.Seq.{take-take, getD-take}
 use lib.Ieee.{Float}
+use Rattle.arm.specs.Empty.{blankRow}
+use Rattle.arm.specs.Setters.{withLinks}
 use Rattle.lists.specs.Lists.{laid}
 use Rattle.lists.specs.Numbers.{gathered, chosen}
 use Rattle.arm.specs.Sized.{Sized}
@@ -19,13 +21,11 @@ use Rattle.arm.specs.declared.Coupling.{Coupling}
 use Rattle.arm.specs.declared.Row.{Row}
 use Rattle.arm.specs.declared.Arm.{Arm}
 use Rattle.arm.specs.Arm.{liveLinks, couplingsOf, maskAt, startAt, dofCountOf, rowsOf, linkAt, noCoupling, couplingAt}
-use Rattle.arm.specs.Edits.{withLinks}
 use Rattle.arm.specs.Agree.{Agree}
 use Rattle.arm.proofs.Live.{part-within}
 use Rattle.arm.proofs.Agree.{same-parents, same-mask-at, same-start}
 use Rattle.kinematics.specs.Answers.{refreshAll}
 use Rattle.full_working.specs.Outcome.{out, workedBy, workedAll}
-use Rattle.full_working.specs.Empty.{blankRow}
 use Rattle.part_arm.specs.Places.{Places, placesOf, goesOn}
 use Rattle.part_arm.specs.Part.{newLink, partLinks, ownEntries, partEntries, partRow, couplingStays, newCoupling, partCouplings, partArm}
 use Rattle.arm_split.proofs.Same.{gathered-same}

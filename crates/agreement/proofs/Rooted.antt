@@ -11,6 +11,7 @@ use lib.Dec.{eqb}
 use lib.ListN.{length, take, drop, getD, replicate, length-drop}
 use lib.Seq.{take-nil, take-take, take-append-le}
 use lib.Ieee.{Float}
+use Rattle.arm.proofs.Accepted.{accepted}
 use Rattle.lists.proofs.Modified.{length-modify, take-modify, map-modify, map-modify-same}
 use Rattle.arm.specs.Sized.{Sized}
 use Rattle.lists.specs.Lists.{modify}
@@ -27,7 +28,6 @@ use Rattle.arm.specs.Arm.{liveLinks, linksOf, couplingsOf, parentOf, lockedOf, 
 use Rattle.arm.specs.HandedIn.{armRefusal}
 use Rattle.arm.specs.Agree.{Agree}
 use Rattle.arm.proofs.Live.{masks-live, mask-there, dof-count-le}
-use Rattle.one_link.proofs.Accepted.{accepted}
 use Rattle.root_change.specs.Root.{rootLink, widened, narrowed, rootRow, rootMask, rootRows, rootChanged}
 use Rattle.root_change.proofs.Settled.{Kind, root-kind, kinds, root-locked}
 use Rattle.agreement.proofs.Rows.{of-rows}

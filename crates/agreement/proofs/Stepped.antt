@@ -8,6 +8,7 @@ use native.Mathlib.Omega.{arith}
 use lib.ListN.{length, take, drop, getD, List·getD-map}
 use lib.Seq.{take-nil, getD-take, getD-drop}
 use lib.Ieee.{Float}
+use Rattle.arm.proofs.Relinked.{Standing, map-same}
 use Rattle.limits.specs.Limits.{linkLimit}
 use Rattle.floats.specs.Floats.{zero32, entryOf, plus, times}
 use Rattle.masks.specs.Masks.{isFree, dofsBelow, dofsOf}
@@ -22,7 +23,6 @@ use Rattle.arm.specs.HandedIn.{armRefusal}
 use Rattle.arm.specs.Agree.{Agree}
 use Rattle.arm.proofs.Live.{mask-there, part-within}
 use Rattle.arm.proofs.Agree.{same-start}
-use Rattle.full_working.proofs.Tests.{Standing, map-same}
 use Rattle.whole_step.specs.Step.{linkIntegrated, linkAfter, linksAfter, velocitiesOf, armAfter}
 use Rattle.whole_step.proofs.Settled.{sized-after, link-at, stands}
 use Rattle.agreement.proofs.Worked.{same-link, same-links, agree-relinked, Workable, workable}

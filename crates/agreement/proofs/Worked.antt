@@ -8,13 +8,13 @@ use native.Mathlib.Omega.{arith}
 use lib.ListN.{length, take}
 use lib.Seq.{ext-getD, getD-take, length-take-le}
 use lib.Ieee.{Float}
+use Rattle.arm.specs.Setters.{withLinks}
 use Rattle.limits.specs.Limits.{linkLimit, tableSize}
 use Rattle.masks.specs.Starts.{totalOf}
 use Rattle.topology.specs.Parents.{parentsFit}
 use Rattle.arm.specs.declared.Link.{Link}
 use Rattle.arm.specs.declared.Arm.{Arm}
 use Rattle.arm.specs.Arm.{liveLinks, linksOf, couplingsOf, lockedOf, parentsOf, masksOf, dofCountOf, entriesTo, rowsOf, noLink, linkAt}
-use Rattle.arm.specs.Edits.{withLinks}
 use Rattle.arm.specs.HandedIn.{parentsEarlier, armRefusal}
 use Rattle.arm.specs.Agree.{Agree}
 use Rattle.arm.proofs.Accepted.{counts-accepted, parents-accepted}

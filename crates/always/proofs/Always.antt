@@ -6,6 +6,8 @@ use native.Mathlib.Omega.{arith}
 use borrow.Author.Tests.{le-leb, lt-leb}
 use lib.ListN.{length}
 use lib.Ieee.{Float}
+use Rattle.arm.proofs.Accepted.{accepted}
+use Rattle.arm.specs.Empty.{emptyArm}
 use Rattle.lists.specs.Tests.{every}
 use Rattle.lists.specs.Numbers.{allBelow}
 use Rattle.limits.specs.Limits.{tableSize}
@@ -20,12 +22,11 @@ use Rattle.kinematics.specs.Pass.{run as pass}
 use Rattle.kinematics.specs.State.{stateAfter, fineAfter, cleared}
 use Rattle.full_working.specs.Outcome.{Outcome}
 use Rattle.full_working.specs.Full.{fullRefusal, fullWorking, Settled}
-use Rattle.full_working.specs.Empty.{emptyArm, emptied}
+use Rattle.full_working.specs.Empty.{emptied}
 use Rattle.arm_edits.specs.Rows.{writeRefusal, withEntry}
 use Rattle.arm_edits.specs.Springs.{springRefusal, withLinkSpring}
 use Rattle.arm_edits.specs.Couplings.{couplingRefusal, withCoupling}
 use Rattle.one_link.specs.Promise.{Right}
-use Rattle.one_link.proofs.Accepted.{accepted}
 use Rattle.one_link.proofs.Settles.{settles}
 use Rattle.one_link_move.specs.Change.{movedInputs}
 use Rattle.one_link_move.specs.Move.{moveRefusal}

@@ -9,6 +9,7 @@ use borrow.Author.Tests.{le-leb}
 use lib.Dec.{leb}
 use lib.ListN.{take, set, length-set}
 use lib.Ieee.{Float}
+use Rattle.refusal.proofs.Laws.{holds-in}
 use Rattle.arm.specs.Sized.{Sized}
 use Rattle.lists.specs.Tests.{every}
 use Rattle.lists.proofs.Bools.{both-hold, both}
@@ -24,7 +25,6 @@ use Rattle.arm_edits.specs.Couplings.{couplingEntries, couplingRefusal, couplin
 use Rattle.arm_edits.proofs.Accepted.{coupling-fits}
 use Rattle.full_working.specs.Outcome.{out}
 use Rattle.full_working.specs.Full.{Settled}
-use Rattle.full_working.proofs.Tests.{holds-in}
 use Rattle.one_link.specs.Promise.{Right}
 use Rattle.one_link.proofs.Settles.{facts, nowhere}
 use Rattle.one_link.proofs.Right.{Edit}

@@ -5,6 +5,7 @@ use mathlib.Core.Bool.{Bool, true, false}
 use mathlib.Core.List.{[]}
 use native.Mathlib.Omega.{arith}
 use lib.ListN.{length, getD, replicate, length-map, length-replicate, getD-replicate}
+use Rattle.arm.specs.Empty.{blankLink, blankCoupling, blankRow, emptyArm}
 use Rattle.lists.proofs.Gathered.{length-laid, length-chosen, chosen-le}
 use Rattle.lists.specs.Numbers.{chosen}
 use Rattle.lists.proofs.Lists.{map-at}
@@ -17,7 +18,6 @@ use Rattle.arm.specs.declared.Link.{Link}
 use Rattle.arm.specs.declared.Arm.{Arm}
 use Rattle.arm.specs.Arm.{liveLinks, entriesOf, noLink, linkAt, couplingAt}
 use Rattle.arm.proofs.Live.{dof-count-le}
-use Rattle.full_working.specs.Empty.{blankLink, blankCoupling, blankRow, emptyArm}
 use Rattle.part_arm.specs.Places.{Places, placesOf}
 use Rattle.part_arm.specs.Part.{newLink, partLinks, partEntries, partRow, couplingStays, newCoupling, partCouplings, partArm}
 use Rattle.arm_split.specs.Words as of-parts

@@ -6,6 +6,7 @@ use mathlib.Core.Logic.{inl, inr}
 use mathlib.Core.List.{List, [], _∷_, map}
 use lib.ListN.{length, take, getD, set, length-set, List·getD-map}
 use lib.Ieee.{Float}
+use Rattle.refusal.proofs.Laws.{holds-in}
 use Rattle.lists.proofs.Modified.{length-modify, modify-field, modify-every}
 use Rattle.lists.proofs.Every.{every-map}
 use Rattle.arm.specs.Sized.{Sized}
@@ -22,7 +23,6 @@ use Rattle.arm.specs.HandedIn.{tagsUnique, parentsEarlier, rootFits, rowsFinite
 use Rattle.arm_edits.specs.Rows.{writeEntries, writeRefusal, entrySet, withEntry, rowWritten}
 use Rattle.full_working.specs.Outcome.{out}
 use Rattle.full_working.specs.Full.{Settled}
-use Rattle.full_working.proofs.Tests.{holds-in}
 use Rattle.one_link.specs.Promise.{Right}
 use Rattle.one_link.proofs.Settles.{facts, nowhere}
 use Rattle.one_link.proofs.Right.{Edit}

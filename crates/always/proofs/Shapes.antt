@@ -9,6 +9,7 @@ use lib.Dec.{eqb, ltb}
 use lib.ListN.{length, take, drop, getD, set, replicate, length-set, length-map, length-append, length-drop, List·getD-map, List·getD-append}
 use lib.Seq.{getD-append-add, getD-drop, length-take-le}
 use lib.Ieee.{Float}
+use Rattle.arm.specs.Setters.{withLinks, withPlace}
 use Rattle.lists.proofs.Modified.{length-modify, modify-same, modify-other, modify-field}
 use Rattle.lists.proofs.Lists.{map-at}
 use Rattle.arm.specs.Sized.{Sized}
@@ -19,14 +20,12 @@ use Rattle.limits.specs.Limits.{linkLimit, dofLimit}
 use Rattle.floats.specs.Floats.{zero32}
 use Rattle.planar.specs.declared.Pose.{Pose}
 use Rattle.planar.specs.Rotation.{rotationAt}
-use Rattle.multibody_joint.specs.Joint.{withMotion, freeJoint, fixedJoint, freePosSet}
+use Rattle.multibody_joint.specs.Joint.{withMotion, freeJoint, fixedJoint, freePosSet, withFrames}
 use Rattle.multibody_joint.specs.Motion.{integrated}
 use Rattle.arm.specs.declared.Link.{Link}
 use Rattle.arm.specs.declared.Row.{Row}
 use Rattle.arm.specs.declared.Arm.{Arm}
 use Rattle.arm.specs.Arm.{liveLinks, entriesOf, noLink, linkAt}
-use Rattle.arm.specs.Edits.{withLinks}
-use Rattle.kinematics.specs.Link.{withPlace}
 use Rattle.kinematics.specs.State.{State, state, inputsOf, putKept, keptOps, stateAfter, fineAfter, cleared, parentAt, everyLink}
 use Rattle.kinematics.specs.Answers.{passed, refreshAll}
 use Rattle.kinematics.proofs.Pass.{run-view}
@@ -39,7 +38,7 @@ use Rattle.one_link_move.specs.Change.{coordinateSet, changed, movedInputs}
 use Rattle.addition.specs.declared.NewLink.{NewLink}
 use Rattle.addition.specs.NewLink.{linkOf, addedInputs}
 use Rattle.whole_step.specs.Step.{linkIntegrated, linkAfter, linksAfter, velocitiesOf, armAfter}
-use Rattle.root_change.specs.Root.{withFrame1, rootJoint, rootLink, widened, narrowed, rootRow, rootMask, rootRows, rootChanged}
+use Rattle.root_change.specs.Root.{rootJoint, rootLink, widened, narrowed, rootRow, rootMask, rootRows, rootChanged}
 
 -- how many coordinates a link's joint has
 abbrev pub coordinates : Link → ℕ
@@ -189,10 +188,10 @@ root-row from to r e = go (eqb from to) (eqb to 0)
     go false false = length-append (drop 3 (r .entries)) (replicate 3 zero32) ∙ omega (arith, length-drop 3 (r .entries))
 
 root-three : (locked : ℕ) (pose : Pose) (l : Link) → coordinates l ≡ 3 → coordinates (rootLink locked pose l) ≡ 3
-unfolding rootLink rootJoint freePosSet withFrame1 freeJoint fixedJoint
+unfolding rootLink rootJoint freePosSet withFrames freeJoint fixedJoint
 root-three locked pose l e = go (eqb (l .joint .locked) locked) (eqb locked 0)
   where
-    go : (s f : Bool) → length (cond s (cond f (freePosSet (l .joint) pose) (withFrame1 (l .joint) pose)) (cond f (freeJoint pose) (fixedJoint pose)) .coordinates) ≡ 3
+    go : (s f : Bool) → length (cond s (cond f (freePosSet (l .joint) pose) (withFrames (l .joint) pose)) (cond f (freeJoint pose) (fixedJoint pose)) .coordinates) ≡ 3
     go true true = refl
     go true false = e
     go false true = refl

@@ -9,6 +9,10 @@ use lib.ListN.{length, set, length-set}
 use lib.Seq.{take-all}
 use lib.Ieee.{Float}
 use native.Mathlib.Omega.{arith}
+use Rattle.arm.proofs.Accepted.{accepted, not-refused, Accepted, accepted, not-refused as none-refused}
+use Rattle.refusal.proofs.Laws.{holds-in}
+use Rattle.arm.proofs.Relinked.{standing, still-accepted}
+use Rattle.arm.specs.Setters.{withLinks, withJoint}
 use Rattle.lists.proofs.Lists.{same-map}
 use Rattle.lists.proofs.Modified.{length-modify, modify-other, modify-field, modify-tests}
 use Rattle.arm.specs.Sized.{Sized}
@@ -24,7 +28,6 @@ use Rattle.multibody_joint.specs.Springs.{withSpring, springSet}
 use Rattle.arm.specs.declared.Link.{Link}
 use Rattle.arm.specs.declared.Arm.{Arm}
 use Rattle.arm.specs.Arm.{liveLinks, linksOf, noLink, linkAt, lockedOf}
-use Rattle.arm.specs.Edits.{withLinks, withJoint}
 use Rattle.arm.specs.HandedIn.{jointFinite, linkFinite, angleFits, linkAngleFits}
 use Rattle.arm_edits.specs.Springs.{springFinite, springEntries, springRefusal, linkSpringSet, withLinkSpring, armSpringSet}
 use Rattle.kinematics.specs.Blocks.{blockAt}
@@ -35,9 +38,7 @@ use Rattle.kinematics.specs.Promises.{Fresh}
 use Rattle.kinematics.proofs.Pass.{new-same}
 use Rattle.full_working.specs.Outcome.{out}
 use Rattle.full_working.specs.Full.{Settled}
-use Rattle.full_working.proofs.Tests.{standing, holds-in, passes, not-refused, still-passes}
 use Rattle.one_link.specs.Promise.{Right}
-use Rattle.one_link.proofs.Accepted.{Accepted, accepted, not-refused as none-refused}
 use Rattle.one_link.proofs.Settles.{facts, nowhere}
 use Rattle.one_link.proofs.Right.{Edit}
 use Rattle.always.proofs.Unworked.{edit-right}
@@ -167,7 +168,7 @@ module _ (a : Arm) (t : List Float) (sized : Sized a) (settled : Settled a t) (l
       let angles = modify-tests (linkSpringSet axis s) linkAngleFits (liveLinks a) link ls noLink (ok .angles) (λ h. unread axis s linkAngleFits (λ l. refl) (linkAt ls link) ∙ h) in
       accepted (withLinks a ls′)
       (not-refused (withLinks a ls′)
-      (still-passes a (sized .links) ls′ (same-length ∙ sized .links) (λ j h. ap standing (same j)) (passes a (none-refused a ok)) finite angles))
+      (still-accepted a (sized .links) ls′ (same-length ∙ sized .links) (λ j h. ap standing (same j)) (accepted a (none-refused a ok)) finite angles))
 
   edit : springRefusal a link axis s ≡ 0 → Edit a t (withLinkSpring a link axis s) nowhere (λ j. j ≡ link)
   unfolding springRefusal withLinkSpring

@@ -4,12 +4,13 @@ use mathlib.Core.Path.{_≡_}
 use mathlib.Core.List.{List}
 use lib.ListN.{length}
 use lib.Ieee.{Float}
+use Rattle.arm.specs.Empty.{emptyArm}
 use Rattle.limits.specs.Limits.{tableSize}
 use Rattle.topology.specs.declared.Split.{Split}
 use Rattle.arm.specs.declared.Arm.{Arm}
 use Rattle.full_working.specs.Outcome.{Outcome, says}
 use Rattle.full_working.specs.Full.{Settled}
-use Rattle.full_working.specs.Empty.{emptyArm, emptied}
+use Rattle.full_working.specs.Empty.{emptied}
 use Rattle.one_link.specs.Promise.{Right}
 use Rattle.one_link_move.specs.declared.Change.{Change}
 use Rattle.one_link_move.specs.Change.{movedInputs}

@@ -1,51 +1,71 @@
--- A list of tests that gives no refusal: each test holds. And a call's own tests go before the arm's. Assumes nothing.
-use Prim.Native.Nat.{ℕ, suc, _≤_, _<_}
+-- An arm that is not refused passes each test, list by list, and one that passes each test is not refused; what that says of its counts, its parents and a
+-- link that is asked for. Assumes nothing.
+use Prim.Native.Nat.{ℕ, _≤_, _<_}
 use mathlib.Core.Path.{_≡_, refl}
 use mathlib.Core.Bool.{Bool, true}
 use mathlib.Core.Logic.{inl, inr}
-use mathlib.Core.List.{List, _∷_}
-use native.Mathlib.Nat.{eq-zero-or-pos}
+use mathlib.Core.List.{[], _∷_}
 use native.Mathlib.Omega.{arith}
 use borrow.Author.Tests.{leb-true, ltb-true}
-use Rattle.lists.proofs.Bools.{both-hold}
+use Rattle.lists.specs.Tests.{every}
+use Rattle.lists.proofs.Bools.{both-hold, both}
 use Rattle.limits.specs.Limits.{linkLimit, couplingLimit}
 use Rattle.refusal.specs.Refusal.{unlessOf, lowerOf, lowest}
-use Rattle.refusal.proofs.Laws.{is-lowest}
-use Rattle.refusal.proofs.Tests.{holds}
+use Rattle.refusal.proofs.Laws.{holds-in}
 use Rattle.arm.specs.declared.Arm.{Arm}
-use Rattle.arm.specs.Arm.{liveLinks, isLink}
-use Rattle.arm.specs.HandedIn.{countsFit, parentsEarlier, couplingsLinksFit, linkNumbersFit, armEntries, armRefusal}
+use Rattle.arm.specs.Arm.{liveLinks, isLink, linksOf, couplingsOf}
+use Rattle.arm.specs.HandedIn.{countsFit, tagsUnique, parentsEarlier, couplingsLinksFit, linkNumbersFit, linkMasksFit, rootFits, couplingAxesFit, masksAndAxesFit, linkFinite, couplingFinite, rowsFinite, floatsFinite, anglesFit, armEntries, armRefusal}
 
--- ---- any list
+pub record Accepted (a : Arm) : Type 0 where
+  pub counts : countsFit a ≡ true
+  pub tags : tagsUnique a ≡ true
+  pub parents : parentsEarlier a ≡ true
+  pub coupled : couplingsLinksFit a ≡ true
+  pub masks : every linkMasksFit (linksOf a) ≡ true
+  pub root : rootFits a ≡ true
+  pub axes : every couplingAxesFit (couplingsOf a) ≡ true
+  pub links : every linkFinite (linksOf a) ≡ true
+  pub couplings : every couplingFinite (couplingsOf a) ≡ true
+  pub rows : rowsFinite a ≡ true
+  pub angles : anglesFit a ≡ true
 
-pub first-holds : (b : Bool) (k : ℕ) (ks : List ℕ) → lowest (unlessOf b (suc k) ∷ ks) ≡ 0 → b ≡ true
-first-holds b k ks e = holds b k (is-lowest (unlessOf b (suc k) ∷ ks) .none e (unlessOf b (suc k)) (inl refl))
+pub accepted : (a : Arm) → armRefusal a ≡ 0 → Accepted a
+unfolding armRefusal armEntries
+accepted a e =
+    let ks = armEntries a in
+    let numbers = both-hold _ _ (holds-in ks e (linkNumbersFit a) 3 (inr (inr (inl refl)))) in
+    let masks = both-hold _ _ (holds-in ks e (masksAndAxesFit a) 4 (inr (inr (inr (inl refl))))) in
+    let of-links = both-hold _ _ (masks .0) in
+    let floats = both-hold _ _ (holds-in ks e (floatsFinite a) 6 (inr (inr (inr (inr (inl refl)))))) in
+    let of-lists = both-hold _ _ (floats .0) in
+    record {
+      counts = holds-in ks e (countsFit a) 1 (inl refl);
+      tags = holds-in ks e (tagsUnique a) 2 (inr (inl refl));
+      parents = numbers .0;
+      coupled = numbers .1;
+      masks = of-links .0;
+      root = of-links .1;
+      axes = masks .1;
+      links = of-lists .0;
+      couplings = of-lists .1;
+      rows = floats .1;
+      angles = holds-in ks e (anglesFit a) 8 (inr (inr (inr (inr (inr (inl refl))))));
+    }
 
-pub rest-accepted : (k : ℕ) (ks : List ℕ) → lowest (k ∷ ks) ≡ 0 → lowest ks ≡ 0
-rest-accepted k ks e = elim (eq-zero-or-pos (lowest ks)) [
-  | inl z ↦ z
-  | inr l ↦ is-lowest (k ∷ ks) .none e (lowest ks) (inr (is-lowest ks .given (λ z. omega arith)))
-]
+none : (p q r s u v : Bool) → p ≡ true → q ≡ true → r ≡ true → s ≡ true → u ≡ true → v ≡ true
+    → lowest (unlessOf p 2 ∷ unlessOf q 3 ∷ unlessOf r 4 ∷ unlessOf s 5 ∷ unlessOf u 7 ∷ unlessOf v 9 ∷ []) ≡ 0
+unfolding lowerOf
+none p q r s u v ep eq er es eu ev = rw (ep, eq, er, es, eu, ev)
 
--- ---- with the arm's
-
-pub own-then-arm : (k : ℕ) (a : Arm) → lowest (k ∷ armEntries a) ≡ lowerOf k (armRefusal a)
-unfolding armEntries armRefusal
-own-then-arm k a = refl
+pub not-refused : (a : Arm) → Accepted a → armRefusal a ≡ 0
+unfolding armRefusal armEntries
+not-refused a k =
+    none (countsFit a) (tagsUnique a) (linkNumbersFit a) (masksAndAxesFit a) (floatsFinite a) (anglesFit a) (k .counts) (k .tags)
+    (both (k .parents) (k .coupled)) (both (both (k .masks) (k .root)) (k .axes)) (both (both (k .links) (k .couplings)) (k .rows)) (k .angles)
 
 -- an accepted arm's counts fit
-pub counts-accepted : (a : Arm) → lowest (armEntries a) ≡ 0 → (a .«link_count» ≤ linkLimit) × (a .«coupling_count» ≤ couplingLimit)
-unfolding armEntries
-counts-accepted a e =
-    let both = both-hold _ _ (holds (countsFit a) 1 (is-lowest (armEntries a) .none e (unlessOf (countsFit a) 2) (inl refl))) in
-    (leb-true _ _ (both .0), leb-true _ _ (both .1))
-
--- and its parents are a tree's
-pub parents-accepted : (a : Arm) → lowest (armEntries a) ≡ 0 → parentsEarlier a ≡ true
-unfolding armEntries
-parents-accepted a e =
-    both-hold (parentsEarlier a) (couplingsLinksFit a)
-    (holds (linkNumbersFit a) 3 (is-lowest (armEntries a) .none e (unlessOf (linkNumbersFit a) 4) (inr (inr (inl refl))))) .0
+pub counts-accepted : (a : Arm) → armRefusal a ≡ 0 → (a .«link_count» ≤ linkLimit) × (a .«coupling_count» ≤ couplingLimit)
+counts-accepted a e = let fit = both-hold _ _ (accepted a e .counts) in (leb-true _ _ (fit .0), leb-true _ _ (fit .1))
 
 -- a link that is asked for is there, and so is its place in the array
 pub record Link-there (a : Arm) (link : ℕ) : Type 0 where
@@ -55,5 +75,5 @@ pub record Link-there (a : Arm) (link : ℕ) : Type 0 where
 pub live : (a : Arm) (link : ℕ) → Link-there a link → link < liveLinks a
 live a link t = omega (arith, t .below, t .room)
 
-pub there : (a : Arm) (link : ℕ) → isLink a link ≡ true → lowest (armEntries a) ≡ 0 → Link-there a link
+pub there : (a : Arm) (link : ℕ) → isLink a link ≡ true → armRefusal a ≡ 0 → Link-there a link
 there a link h e = record { below = ltb-true link (a .«link_count») h; room = counts-accepted a e .0 }

@@ -4,12 +4,13 @@ use mathlib.Core.List.{List}
 use mathlib.Core.Path.{_≡_, sym, ap, _∙_}
 use native.Mathlib.Omega.{arith}
 use lib.ListN.{length, take, getD}
+use Rattle.arm.specs.Inner.{handedIn}
 use Rattle.arm.proofs.Padded.{padded-front}
 use Rattle.limits.specs.Limits.{linkLimit}
 use Rattle.arm.specs.declared.Arm.{Arm}
 use Rattle.arm.specs.declared.HandedIn.{HandedIn}
 use Rattle.arm.specs.Arm.{liveLinks, tagsOf, parentsOf, masksOf, maskAt}
-use Rattle.arm.specs.HandedIn.{armRefusal, handedIn}
+use Rattle.arm.specs.HandedIn.{armRefusal}
 use Rattle.arm.proofs.Live.{tags-live, parents-live, masks-live}
 
 module _ (a : Arm) (whole : length (a .links) ≡ linkLimit) (h : HandedIn) (found : h ≡ handedIn a) where

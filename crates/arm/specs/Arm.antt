@@ -1,12 +1,15 @@
 -- An arm, up to its counts: what lies past them is no part of it.
 use Prim.Native.Nat.{ℕ, min}
 use mathlib.Core.Bool.{Bool}
-use mathlib.Core.List.{List, map}
+use mathlib.Core.List.{List, [], map}
 use lib.Dec.{ltb}
 use lib.ListN.{take, getD}
-use lib.Ieee.{Float}
+use lib.Ieee.{Float, nan}
 use Rattle.limits.specs.Limits.{linkLimit, couplingLimit}
 use Rattle.masks.specs.Starts.{totalOf, startOf}
+use Rattle.planar.specs.declared.Point.{Point}
+use Rattle.planar.specs.declared.Pose.{Pose}
+use Rattle.multibody_joint.specs.declared.Joint.{Joint}
 use Rattle.arm.specs.declared.Link.{Link}
 use Rattle.arm.specs.declared.Coupling.{Coupling}
 use Rattle.arm.specs.declared.Row.{Row}
@@ -20,11 +23,28 @@ use Rattle.arm.specs.declared.Arm.{Arm}
 abbrev pub liveLinks : Arm → ℕ
 liveLinks a = min (a .«link_count») linkLimit
 
+-- what is read past the end of the list
+abbrev pub noLink : Link
+noLink =
+    let p : Point = record { x = nan; y = nan } in
+    let q : Pose = record { re = nan; im = nan; x = nan; y = nan } in
+    let j : Joint = record { locked = 0; limit = 0; motor = 0; frame1 = q; frame2 = q; coordinates = []; rotation = record { re = nan; im = nan }; stiffness = []; rest = [] } in
+    record { tag = 0; parent = 0; joint = j; centre = p; world = q; shift02 = p; shift23 = p }
+
+abbrev pub linkAt : List Link → ℕ → Link
+linkAt ls j = getD ls j noLink
+
 unfoldable pub linksOf : Arm → List Link
 linksOf a = take (liveLinks a) (a .links)
 
 unfoldable pub couplingsOf : Arm → List Coupling
 couplingsOf a = take (min (a .«coupling_count») couplingLimit) (a .couplings)
+
+abbrev pub noCoupling : Coupling
+noCoupling = record { link1 = 0; axis1 = 0; link2 = 0; axis2 = 0; coefficient = nan; offset = nan }
+
+abbrev pub couplingAt : Arm → ℕ → Coupling
+couplingAt a i = getD (a .couplings) i noCoupling
 
 -- a number that is below the link count
 abbrev pub isLink : Arm → ℕ → Bool

@@ -1,5 +1,5 @@
 -- An arm handed in: document 01's rules 2 to 5, 7 and 9, each as a test of the arm up to its counts.
-use Prim.Native.Nat.{ℕ, zero, suc}
+use Prim.Native.Nat.{ℕ}
 use mathlib.Core.Bool.{Bool, true, not, _&&_, _||_}
 use mathlib.Core.List.{List, [], _∷_}
 use lib.Dec.{eqb, leb, ltb}
@@ -14,17 +14,9 @@ use Rattle.multibody_joint.specs.declared.Joint.{Joint}
 use Rattle.multibody_joint.specs.Joint.{coordinateOf}
 use Rattle.arm.specs.declared.Link.{Link}
 use Rattle.arm.specs.declared.Coupling.{Coupling}
-use Rattle.arm.specs.declared.Row.{Row}
 use Rattle.arm.specs.declared.Arm.{Arm}
-use Rattle.arm.specs.declared.HandedIn.{HandedIn}
-use Rattle.arm.specs.declared.LinkTests.{LinkTests}
-use Rattle.arm.specs.declared.CouplingTests.{CouplingTests}
-use Rattle.arm.specs.Arm.{linksOf, couplingsOf, tagsOf, parentsOf, masksOf, entriesTo, rowsOf}
-
--- does each pass?
-unfoldable pub every : {A : Type 0} → (A → Bool) → List A → Bool
-every test [] = true
-every test (x ∷ xs) = test x && every test xs
+use Rattle.lists.specs.Tests.{every}
+use Rattle.arm.specs.Arm.{linksOf, couplingsOf, tagsOf, parentsOf, masksOf, rowsOf}
 
 -- ---- 2: the counts fit
 
@@ -96,10 +88,6 @@ linkFinite l =
 unfoldable pub couplingFinite : Coupling → Bool
 couplingFinite c = isFinite (c .coefficient) && isFinite (c .offset)
 
--- a row's first n entries
-unfoldable pub rowFinite : ℕ → Row → Bool
-rowFinite n row = allFinite (entriesTo n row)
-
 -- row entries up to the DoF count
 unfoldable pub rowsFinite : Arm → Bool
 rowsFinite a = every allFinite (rowsOf a)
@@ -133,39 +121,3 @@ armEntries a =
 
 unfoldable pub armRefusal : Arm → ℕ
 armRefusal a = lowest (armEntries a)
-
--- ---- what is found of it besides
-
--- the list, and zeros behind it: n entries in all
-unfoldable pub padded : ℕ → List ℕ → List ℕ
-padded zero xs = []
-padded (suc n) [] = 0 ∷ padded n []
-padded (suc n) (x ∷ xs) = x ∷ padded n xs
-
--- the refusal, and the links' tags, parents and locked masks
-unfoldable pub handedIn : Arm → HandedIn
-handedIn a = record {
-  refusal = armRefusal a;
-  tags = padded linkLimit (tagsOf a);
-  parents = padded linkLimit (parentsOf a);
-  masks = padded linkLimit (masksOf a);
-}
-
--- ---- the tests of one pass over the links, and of one over the couplings
-
-unfoldable pub linkTestsOf : Arm → LinkTests
-linkTestsOf a = record {
-  tags = padded linkLimit (tagsOf a);
-  parents = padded linkLimit (parentsOf a);
-  locked = padded linkLimit (masksOf a);
-  masks = every linkMasksFit (linksOf a);
-  floats = every linkFinite (linksOf a);
-  angles = anglesFit a;
-}
-
-unfoldable pub couplingTestsOf : Arm → CouplingTests
-couplingTestsOf a = record {
-  links = couplingsLinksFit a;
-  axes = every couplingAxesFit (couplingsOf a);
-  floats = every couplingFinite (couplingsOf a);
-}

@@ -1,5 +1,9 @@
 pub mod Arm
+pub mod Setters
+pub mod Empty
 pub mod Edits
 pub mod HandedIn
+pub mod Sized
 pub mod Agree
 pub mod Words
+pub mod Inner

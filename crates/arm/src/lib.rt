@@ -9,8 +9,11 @@ ghost use Rattle.limits.specs.Limits.{linkLimit, dofLimit};
 ghost use Rattle.masks.specs.Starts.{startOf};
 ghost use Rattle.topology.specs.Parents.{parentsFit};
 ghost use Rattle.arm.specs.Arm.{parentOf, lockedOf, startAt, dofCountOf, maskAt, rowNumber};
-ghost use Rattle.arm.specs.Edits.{withLinks, dofAmong, dofAt};
-ghost use Rattle.arm.specs.HandedIn.{isNew, unique, jointMasksFit, jointFinite, linkFinite, angleFits, linkTestsOf, couplingLinksFit, couplingAxesFit, couplingFinite, couplingTestsOf, rootMaskFits, rowFinite, handedIn, armRefusal};
+ghost use Rattle.arm.specs.Setters.{unplaced, withInputs, withJoint, withPlace, armWith, withLinks};
+ghost use Rattle.arm.specs.Empty.{emptyArm};
+ghost use Rattle.arm.specs.Edits.{dofAt};
+ghost use Rattle.arm.specs.Inner.{rowFinite, dofAmong, linkTestsOf, couplingTestsOf, handedIn};
+ghost use Rattle.arm.specs.HandedIn.{isNew, unique, jointMasksFit, jointFinite, linkFinite, angleFits, couplingLinksFit, couplingAxesFit, couplingFinite, rootMaskFits, armRefusal};
 use floats::all_finite;
 use floats::finite;
 use limits::COUPLINGS;
@@ -22,8 +25,10 @@ use masks::dofs_below;
 use masks::is_axis;
 use masks::is_mask;
 use multibody_joint::Joint;
+use multibody_joint::fixed;
 use planar::Point;
 use planar::Pose;
+use planar::identity;
 use planar::is_beyond;
 use planar::is_finite_point;
 use planar::is_finite_pose;
@@ -83,6 +88,119 @@ pub struct Arm {
 pub struct Edited {
     pub arm: Arm,
     pub refusal: u8,
+}
+
+// ---- Made, and changed: here alone every field is named
+
+// A new link: its pose and shifts are yet to be worked out.
+pub fn unplaced_link(tag: u32, parent: u8, joint: Joint, centre: Point) -> Link
+    ensures { λ l. ⌜ l ≡ unplaced tag parent joint centre ⌝ }
+{
+    let origin = Point { x: 0.0, y: 0.0 };
+    Link {
+        tag,
+        parent,
+        joint,
+        centre,
+        world: identity(),
+        shift02: origin,
+        shift23: origin,
+    }
+}
+
+// The link with another parent, joint and centre of mass.
+pub fn with_inputs(l: Link, parent: u8, joint: Joint, centre: Point) -> Link
+    ensures { λ r. ⌜ r ≡ withInputs l parent joint centre ⌝ }
+{
+    Link {
+        parent,
+        joint,
+        centre,
+        ..l
+    }
+}
+
+// The link with another joint.
+pub fn with_joint(l: Link, joint: Joint) -> Link
+    ensures { λ r. ⌜ r ≡ withJoint l joint ⌝ }
+{
+    Link { joint, ..l }
+}
+
+// The link with another world pose and other shifts.
+pub fn with_place(l: Link, world: Pose, shift02: Point, shift23: Point) -> Link
+    ensures { λ r. ⌜ r ≡ withPlace l world shift02 shift23 ⌝ }
+{
+    Link {
+        world,
+        shift02,
+        shift23,
+        ..l
+    }
+}
+
+// The arm with other counts, links, couplings and rows. It is put together of its parts: so it is not copied whole in between.
+pub fn arm_with(
+    arm: Arm,
+    link_count: usize,
+    coupling_count: usize,
+    links: [Link; LINKS],
+    couplings: [Coupling; COUPLINGS],
+    rows: [Row; 5],
+) -> Arm
+    ensures { λ r. ⌜ r ≡ armWith arm «link_count» «coupling_count» links couplings rows ⌝ }
+{
+    Arm {
+        link_count,
+        coupling_count,
+        links,
+        couplings,
+        rows,
+    }
+}
+
+// The arm with other links.
+pub fn with_links(arm: Arm, links: [Link; LINKS]) -> Arm
+    ensures { λ r. ⌜ r ≡ withLinks arm links ⌝ }
+{
+    let couplings = arm.couplings;
+    let rows = arm.rows;
+    arm_with(
+        arm,
+        arm.link_count,
+        arm.coupling_count,
+        links,
+        couplings,
+        rows,
+    )
+}
+
+// An arm of no links.
+pub fn empty_arm() -> Arm
+    ensures { λ a. ⌜ a ≡ emptyArm ⌝ }
+{
+    let link = unplaced_link(0, 0, fixed(identity()), Point { x: 0.0, y: 0.0 });
+    let coupling = Coupling {
+        link1: 0,
+        axis1: 0,
+        link2: 0,
+        axis2: 0,
+        coefficient: 0.0,
+        offset: 0.0,
+    };
+    let row = Row {
+        entries: [0.0f32; DOFS],
+    };
+    let links = [link; LINKS];
+    let couplings = [coupling; COUPLINGS];
+    let rows = [row; 5];
+    Arm {
+        link_count: 0,
+        coupling_count: 0,
+        links,
+        couplings,
+        rows,
+    }
 }
 
 // ---- What counts
@@ -179,21 +297,6 @@ pub fn dof_at(arm: Arm, link: usize, axis: u8) -> usize
     ensures { λ r. ⌜ r ≡ dofAt arm link axis ⌝ }
 {
     dof_among(masks_of(arm), arm.link_count, link, axis)
-}
-
-// The arm with other links.
-pub fn with_links(arm: Arm, links: [Link; LINKS]) -> Arm
-    ensures { λ r. ⌜ r ≡ withLinks arm links ⌝ }
-{
-    let couplings = arm.couplings;
-    let rows = arm.rows;
-    Arm {
-        link_count: arm.link_count,
-        coupling_count: arm.coupling_count,
-        links,
-        couplings,
-        rows,
-    }
 }
 
 pub fn row_number(name: RowName) -> usize

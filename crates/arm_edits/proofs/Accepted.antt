@@ -7,6 +7,7 @@ use native.Mathlib.Omega.{arith}
 use borrow.Author.Tests.{leb-true, ltb-true}
 use lib.Dec.{ltb}
 use lib.Ieee.{Float}
+use Rattle.refusal.proofs.Laws.{first-holds, rest-accepted}
 use Rattle.lists.proofs.Bools.{both-hold}
 use Rattle.limits.specs.Limits.{linkLimit, couplingLimit}
 use Rattle.refusal.specs.Refusal.{unlessOf}
@@ -16,7 +17,7 @@ use Rattle.multibody_joint.specs.declared.Spring.{Spring}
 use Rattle.arm.specs.declared.Arm.{Arm}
 use Rattle.arm.specs.Arm.{isLink, maskAt}
 use Rattle.arm.specs.HandedIn.{armEntries}
-use Rattle.arm.proofs.Accepted.{first-holds, rest-accepted, counts-accepted, Link-there, there}
+use Rattle.arm.proofs.Accepted.{counts-accepted, Link-there, there}
 use Rattle.arm_edits.specs.declared.NewCoupling.{NewCoupling}
 use Rattle.arm_edits.specs.Rows.{writeRefusal}
 use Rattle.arm_edits.specs.Springs.{springFinite, springRefusal}

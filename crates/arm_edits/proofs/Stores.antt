@@ -3,6 +3,7 @@ use Prim.Native.Nat.{ℕ}
 use mathlib.Core.Path.{_≡_, ap, _∙_}
 use lib.ListN.{getD, set}
 use lib.Ieee.{Float}
+use Rattle.arm.specs.Setters.{withLinks, withRows}
 use Rattle.lists.proofs.Modified.{set-modify}
 use Rattle.multibody_joint.specs.declared.Spring.{Spring}
 use Rattle.arm.specs.declared.Link.{Link}
@@ -10,7 +11,7 @@ use Rattle.arm.specs.declared.Row.{Row}
 use Rattle.arm.specs.declared.RowName.{RowName}
 use Rattle.arm.specs.declared.Arm.{Arm}
 use Rattle.arm.specs.Arm.{rowNumber}
-use Rattle.arm.specs.Edits.{withLinks, withRows, dofAt}
+use Rattle.arm.specs.Edits.{dofAt}
 use Rattle.arm_edits.specs.Rows.{entrySet, withEntry}
 use Rattle.arm_edits.specs.Springs.{linkSpringSet, withLinkSpring}
 

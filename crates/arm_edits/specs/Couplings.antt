@@ -4,6 +4,7 @@ use mathlib.Core.Bool.{_&&_}
 use mathlib.Core.List.{List, _∷_}
 use lib.Dec.{ltb}
 use lib.ListN.{set}
+use Rattle.arm.specs.Setters.{withCouplings}
 use Rattle.limits.specs.Limits.{couplingLimit}
 use Rattle.refusal.specs.Refusal.{unlessOf, lowest}
 use Rattle.floats.specs.Floats.{isFinite}
@@ -12,7 +13,7 @@ use Rattle.arm.specs.declared.Coupling.{Coupling}
 use Rattle.arm.specs.declared.Arm.{Arm}
 use Rattle.arm.specs.declared.Edited.{Edited}
 use Rattle.arm.specs.Arm.{isLink}
-use Rattle.arm.specs.Edits.{edited, withCouplings}
+use Rattle.arm.specs.Edits.{edited}
 use Rattle.arm.specs.HandedIn.{armEntries}
 use Rattle.arm_edits.specs.declared.NewCoupling.{NewCoupling}
 

@@ -3,6 +3,7 @@ use Prim.Native.Nat.{ℕ}
 use mathlib.Core.List.{List, _∷_}
 use lib.ListN.{set}
 use lib.Ieee.{Float}
+use Rattle.arm.specs.Setters.{withRows}
 use Rattle.lists.specs.Lists.{modify}
 use Rattle.refusal.specs.Refusal.{unlessOf, lowest}
 use Rattle.floats.specs.Floats.{isFinite}
@@ -12,7 +13,7 @@ use Rattle.arm.specs.declared.RowName.{RowName}
 use Rattle.arm.specs.declared.Arm.{Arm}
 use Rattle.arm.specs.declared.Edited.{Edited}
 use Rattle.arm.specs.Arm.{isLink, maskAt, rowNumber}
-use Rattle.arm.specs.Edits.{edited, withRows, dofAt}
+use Rattle.arm.specs.Edits.{edited, dofAt}
 use Rattle.arm.specs.HandedIn.{armEntries}
 
 -- 6: the axis asked for is locked

@@ -2,6 +2,7 @@
 use Prim.Native.Nat.{ℕ}
 use mathlib.Core.Bool.{Bool, _&&_}
 use mathlib.Core.List.{List, _∷_}
+use Rattle.arm.specs.Setters.{withLinks, withJoint}
 use Rattle.lists.specs.Lists.{modify}
 use Rattle.refusal.specs.Refusal.{unlessOf, lowest}
 use Rattle.floats.specs.Floats.{isFinite}
@@ -12,7 +13,7 @@ use Rattle.arm.specs.declared.Link.{Link}
 use Rattle.arm.specs.declared.Arm.{Arm}
 use Rattle.arm.specs.declared.Edited.{Edited}
 use Rattle.arm.specs.Arm.{isLink}
-use Rattle.arm.specs.Edits.{edited, withLinks, withJoint}
+use Rattle.arm.specs.Edits.{edited}
 use Rattle.arm.specs.HandedIn.{armEntries}
 
 unfoldable pub springFinite : Spring → Bool

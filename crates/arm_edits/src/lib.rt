@@ -2,9 +2,9 @@
 // tested, and the lowest refusal of all is given. A refusal returns the arm as it came.
 ghost use mathlib.Core.Path.{_≡_};
 ghost use Prim.Native.Nat.{_<_};
+ghost use Rattle.arm.specs.Inner.{handedIn};
 ghost use Rattle.limits.specs.Limits.{dofLimit};
 ghost use Rattle.masks.specs.Masks.{isFree};
-ghost use Rattle.arm.specs.HandedIn.{handedIn};
 ghost use Rattle.arm_edits.specs.Rows.{writeRefusal, entrySet, rowWritten};
 ghost use Rattle.arm_edits.specs.Springs.{springFinite, springRefusal, linkSpringSet, armSpringSet};
 ghost use Rattle.arm_edits.specs.Couplings.{couplingRefusal, couplingAdded};

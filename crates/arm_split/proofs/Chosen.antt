@@ -7,6 +7,7 @@ use native.Mathlib.Omega.{arith}
 use borrow.Author.Tests.{ltb-true}
 use lib.ListN.{length, take}
 use lib.Seq.{getD-take, length-take-le}
+use Rattle.arm.proofs.Accepted.{accepted}
 use Rattle.refusal.specs.Counted.{out as mapped}
 use Rattle.refusal.specs.declared.Counted.{Counted}
 use Rattle.lists.proofs.Every.{every-at}
@@ -28,7 +29,6 @@ use Rattle.arm_split.proofs.Same.{Agree, part-same}
 use Rattle.arm_split.proofs.Refused.{Whole, accepted-whole, part-accepted, part-map}
 use Rattle.full_working.specs.Outcome.{workedAll}
 use Rattle.full_working.proofs.Refused.{accepted as go-on}
-use Rattle.full_working.proofs.Tests.{passes}
 use Rattle.arm_split.specs.Answers.{partRefusal, armPart}
 use Rattle.topology.specs.Answers.{splitAnswer}
 use lib.Ieee.{Float}
@@ -43,7 +43,7 @@ module _ (a : Arm) (whole : length (a .links) ≡ linkLimit) (all : length (a .c
   pub coupling-links : armRefusal a ≡ 0 → (i : ℕ) → i < min (a .«coupling_count») couplingLimit → (couplingAt a i .link1 < a .«link_count») × (couplingAt a i .link2 < a .«link_count»)
   unfolding couplingsOf couplingLinksFit
   coupling-links e i h =
-      let fits = both-hold (parentsEarlier a) (couplingsLinksFit a) (passes a e .numbers) .1 in
+      let fits = both-hold (parentsEarlier a) (couplingsLinksFit a) (accepted a e .numbers) .1 in
       let n = min (a .«coupling_count») couplingLimit in
       let one = every-at (couplingLinksFit (a .«link_count»)) (take n (a .couplings)) noCoupling fits i (omega (arith, length-take-le n (a .couplings) (omega arith))) in
       let both = both-hold _ _ (rw (getD-take n (a .couplings) i noCoupling h) at one) in

@@ -1,4 +1,4 @@
--- A part of an accepted arm passes every test of an arm handed in: its first link is a head, every other one's parent is earlier, and what is kept passed
+-- A part of an accepted arm accepted every test of an arm handed in: its first link is a head, every other one's parent is earlier, and what is kept passed
 -- before. Assumes nothing.
 use Prim.Native.Nat.{ℕ, zero, suc, min, _≤_, _<_}
 use mathlib.Core.Path.{_≡_, refl, sym, ap, ap₂, _∙_}
@@ -10,6 +10,9 @@ use lib.Dec.{leb}
 use lib.ListN.{length, take, drop, getD, length-map}
 use lib.Seq.{take-at, getD-take, length-take-le}
 use lib.Ieee.{Float, lt, ofBits}
+use Rattle.arm.proofs.Relinked.{link-passes}
+use Rattle.arm.proofs.Accepted.{Accepted, accepted, not-refused}
+use Rattle.arm.specs.Empty.{blankRow}
 use Rattle.arm.specs.Sized.{Sized}
 use Rattle.lists.proofs.Gathered.{chosen-le, length-chosen}
 use Rattle.lists.specs.Lists.{laid}
@@ -41,8 +44,6 @@ use Rattle.arm.specs.declared.Arm.{Arm}
 use Rattle.arm.specs.Arm.{liveLinks, linksOf, couplingsOf, tagOf, lockedOf, tagsOf, parentsOf, masksOf, maskAt, startAt, dofCountOf, entriesTo, rowsOf, linkAt, noLink, noCoupling, couplingAt, parentOf}
 use Rattle.arm.specs.HandedIn.{unique, tagsUnique, parentsEarlier, couplingLinksFit, jointMasksFit, linkMasksFit, rootMaskFits, rootFits, couplingAxesFit, jointFinite, linkFinite, couplingFinite, rowsFinite, angleFits, linkAngleFits, armRefusal}
 use Rattle.arm.proofs.Live.{links-live, masks-live, parents-live}
-use Rattle.full_working.specs.Empty.{blankRow}
-use Rattle.full_working.proofs.Tests.{Passes, passes, not-refused, link-passes}
 use Rattle.part_arm.specs.Places.{Places, placesOf, goesOn}
 use Rattle.part_arm.specs.Part.{newLink, partLinks, ownEntries, partEntries, partRow, couplingStays, newCoupling, partCouplings, partArm}
 use Rattle.arm_split.specs.Words.{PartPasses}
@@ -150,8 +151,8 @@ module _ (a : Arm) (s : Split) (k : ℕ) (sized : Sized a) (accepted : armRefusa
   long : length ps ≡ n
   long = parents-live a (sized .links)
 
-  before : Passes a
-  before = passes a accepted
+  before : Accepted a
+  before = accepted a accepted
 
   link-list : partLinks p a ≡ chosen n (isIn ps s k) linkFor
   unfolding partLinks
@@ -345,7 +346,7 @@ module _ (a : Arm) (s : Split) (k : ℕ) (sized : Sized a) (accepted : armRefusa
 
   -- ---- all
 
-  part-passes : Passes (partArm p a)
+  part-passes : Accepted (partArm p a)
   unfolding partArm
   part-passes =
       let five = both-hold _ (every couplingAxesFit (couplingsOf a)) (before .masks) in

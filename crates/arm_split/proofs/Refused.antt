@@ -13,7 +13,7 @@ use Rattle.refusal.specs.Counted.{Outcome, out, filled}
 use Rattle.refusal.specs.declared.Counted.{Counted}
 use Rattle.limits.specs.Limits.{linkLimit}
 use Rattle.refusal.specs.Refusal.{unlessOf, lowerOf, In}
-use Rattle.refusal.proofs.Laws.{is-lowest}
+use Rattle.refusal.proofs.Laws.{is-lowest, first-holds, rest-accepted}
 use Rattle.topology.specs.declared.Split.{Split}
 use Rattle.topology.specs.Parents.{parentsFit}
 use Rattle.topology.specs.Split.{linkOf, partCount, splitMap}
@@ -25,7 +25,6 @@ use Rattle.arm.specs.declared.Arm.{Arm}
 use Rattle.arm.specs.Arm.{liveLinks, parentsOf}
 use Rattle.arm.specs.HandedIn.{countsFit, parentsEarlier, armEntries, armRefusal}
 use Rattle.arm.proofs.Live.{parents-live}
-use Rattle.arm.proofs.Accepted.{first-holds, rest-accepted}
 use Rattle.arm_split.specs.Answers.{splitRefusal, armSplit, partRefusal}
 
 -- ---- an answer of the bare list, in its fields

@@ -5,6 +5,7 @@ use mathlib.Core.Bool.{Bool, true, false, cond, not, _&&_}
 use mathlib.Core.List.{List, [], _∷_, _++_, map}
 use native.Mathlib.Omega.{arith}
 use lib.Ieee.{Float}
+use Rattle.arm.specs.Setters.{withInputs}
 use Rattle.lists.specs.Numbers.{gathered}
 use Rattle.lists.proofs.Bools.{both-hold}
 use Rattle.limits.specs.Limits.{couplingLimit}
@@ -14,7 +15,7 @@ use Rattle.arm.specs.declared.Row.{Row}
 use Rattle.arm.specs.declared.Arm.{Arm}
 use Rattle.arm.specs.Arm.{liveLinks, linkAt, couplingAt}
 use Rattle.part_arm.specs.Places.{Places, goesOn}
-use Rattle.part_arm.specs.Part.{rejoined, newLink, partLinks, ownEntries, partEntries, partRow, couplingStays, newCoupling, partCouplings, partArm}
+use Rattle.part_arm.specs.Part.{newLink, partLinks, ownEntries, partEntries, partRow, couplingStays, newCoupling, partCouplings, partArm}
 
 pub gathered-same : {A : Type 0} (n : ℕ) (f g : ℕ → List A) → ((j : ℕ) → j < n → f j ≡ g j) → gathered n f ≡ gathered n g
 unfolding gathered
@@ -48,7 +49,7 @@ module _ (a : Arm) (p q : Places) (same : Agree a p q) where
   link-same j h e true f = refl
   link-same j h e false f =
       let up = same .parent j h e f in
-      ap (λ (x : ℕ). rejoined (linkAt (a .links) j) x (linkAt (a .links) j .joint)) (same .number _ (up .0) (up .1))
+      ap (λ (x : ℕ). withInputs (linkAt (a .links) j) x (linkAt (a .links) j .joint)) (same .number _ (up .0) (up .1))
 
   links-same : partLinks p a ≡ partLinks q a
   unfolding partLinks

@@ -7,6 +7,7 @@ use native.Mathlib.Omega.{arith}
 use lib.ListN.{length, drop, length-append, length-drop}
 use lib.Seq.{length-take-le}
 use lib.Ieee.{Float}
+use Rattle.arm.specs.Empty.{emptyArm}
 use Rattle.arm.specs.Sized.{Sized}
 use Rattle.lists.proofs.Gathered.{length-laid}
 use Rattle.lists.specs.Numbers.{gathered, chosen}
@@ -20,7 +21,6 @@ use Rattle.arm.specs.declared.Link.{Link}
 use Rattle.arm.specs.declared.Arm.{Arm}
 use Rattle.arm.specs.Arm.{liveLinks, lockedOf, masksOf, maskAt, startAt, dofCountOf, linkAt, noLink}
 use Rattle.arm.proofs.Live.{mask-there, masks-live, dof-count-le}
-use Rattle.full_working.specs.Empty.{emptyArm}
 use Rattle.full_working.proofs.Again.{call-settles}
 use Rattle.part_arm.specs.Places.{Places, placesOf, goesOn}
 use Rattle.part_arm.specs.Part.{newLink, partLinks, ownEntries, partEntries, partArm}

@@ -6,13 +6,14 @@ use borrow.Author.Tests.{leb-true}
 use lib.Dec.{leb}
 use lib.ListN.{length, take}
 use lib.Ieee.{Float}
+use Rattle.refusal.proofs.Laws.{first-holds, rest-accepted}
 use Rattle.refusal.specs.Refusal.{unlessOf}
 use Rattle.floats.specs.Floats.{allFinite}
 use Rattle.masks.specs.Masks.{isAxis}
 use Rattle.arm.specs.declared.Arm.{Arm}
 use Rattle.arm.specs.Arm.{isLink}
 use Rattle.arm.specs.HandedIn.{armEntries}
-use Rattle.arm.proofs.Accepted.{first-holds, rest-accepted, Link-there, there}
+use Rattle.arm.proofs.Accepted.{Link-there, there}
 use Rattle.arm_views.specs.Links.{springRefusal, linkDofs, mulRefusal}
 
 module _ (a : Arm) (link axis : ℕ) where

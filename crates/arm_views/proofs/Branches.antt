@@ -8,6 +8,7 @@ use native.Mathlib.Omega.{arith}
 use borrow.Author.Tests.{le-leb, ltb-true, lt-ltb}
 use lib.Dec.{leb}
 use lib.ListN.{length}
+use Rattle.refusal.proofs.Laws.{first-holds, rest-accepted}
 use Rattle.refusal.specs.Counted.{filled, out}
 use Rattle.limits.specs.Limits.{linkLimit}
 use Rattle.refusal.specs.Refusal.{unlessOf, lowerOf}
@@ -16,7 +17,7 @@ use Rattle.topology.specs.Answers.{refusalOf, branchAnswer}
 use Rattle.arm.specs.declared.Arm.{Arm}
 use Rattle.arm.specs.Arm.{isLink, parentsOf}
 use Rattle.arm.specs.HandedIn.{parentsEarlier, armEntries}
-use Rattle.arm.proofs.Accepted.{first-holds, rest-accepted, counts-accepted, parents-accepted}
+use Rattle.arm.proofs.Accepted.{counts-accepted, parents-accepted}
 use Rattle.arm.proofs.Live.{parents-live}
 use Rattle.arm_views.specs.Branch.{branchNeeded, branchRefusal, armBranch}
 

@@ -8,6 +8,7 @@ use borrow.Author.Tests.{leb-true, ltb-true}
 use lib.Dec.{leb}
 use lib.ListN.{length, take, drop}
 use lib.Ieee.{Float}
+use Rattle.refusal.proofs.Laws.{first-holds, rest-accepted}
 use Rattle.lists.proofs.Bools.{both-hold}
 use Rattle.limits.specs.Limits.{linkLimit, dofLimit}
 use Rattle.refusal.specs.Refusal.{unlessOf}
@@ -15,7 +16,7 @@ use Rattle.masks.specs.Masks.{dofsOf}
 use Rattle.arm.specs.declared.Arm.{Arm}
 use Rattle.arm.specs.Arm.{isLink, maskAt, startAt, dofCountOf}
 use Rattle.arm.specs.HandedIn.{armEntries}
-use Rattle.arm.proofs.Accepted.{first-holds, rest-accepted, counts-accepted}
+use Rattle.arm.proofs.Accepted.{counts-accepted}
 use Rattle.arm.proofs.Live.{part-within, dof-count-le}
 use Rattle.arm_views.specs.declared.Role.{Role}
 use Rattle.arm_views.specs.View.{seen, rowOf, ownPart, viewRefusal, viewBy, viewAnswer}

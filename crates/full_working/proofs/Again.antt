@@ -10,6 +10,10 @@ use borrow.Author.Tests.{leb-true, le-leb}
 use lib.ListN.{length, drop, replicate, length-map, length-append, length-replicate, List·getD-map}
 use lib.Seq.{ext-getD, drop-at}
 use lib.Ieee.{Float}
+use Rattle.arm.proofs.Accepted.{accepted, not-refused}
+use Rattle.arm.proofs.Relinked.{standing, link-passes, links-pass, still-accepted}
+use Rattle.refusal.proofs.Laws.{rest-accepted}
+use Rattle.arm.specs.Setters.{withLinks, withPlace}
 use Rattle.lists.proofs.Numbers.{all-at, all-same}
 use Rattle.lists.proofs.Bools.{both-hold, both}
 use Rattle.limits.specs.Limits.{linkLimit, blockSize, tableSize}
@@ -20,10 +24,8 @@ use Rattle.multibody_joint.specs.declared.Joint.{Joint}
 use Rattle.arm.specs.declared.Link.{Link}
 use Rattle.arm.specs.declared.Arm.{Arm}
 use Rattle.arm.specs.Arm.{liveLinks, noLink, linkAt, lockedOf}
-use Rattle.arm.specs.Edits.{withLinks}
 use Rattle.arm.specs.HandedIn.{jointFinite, linkFinite, linkAngleFits, armRefusal}
-use Rattle.arm.proofs.Accepted.{rest-accepted}
-use Rattle.kinematics.specs.Link.{Kept, finitePlace, finiteKept, withPlace}
+use Rattle.kinematics.specs.Link.{Kept, finitePlace, finiteKept}
 use Rattle.kinematics.specs.State.{State, state, inputsOf, keptAt, keptOps, stateAfter, fineAfter, cleared, newBlock, parentAt, everyLink, blocksLaid}
 use Rattle.kinematics.specs.Answers.{passed, refreshAll}
 use Rattle.kinematics.proofs.Pass.{new-same, only, turn-result, beyond, stays-good}
@@ -35,7 +37,6 @@ use Rattle.kinematics.proofs.Promises.{link-back}
 use Rattle.full_working.specs.Outcome.{Outcome, says, out, unlessRefused, tablesFit, workedBy, workedAll}
 use Rattle.full_working.specs.Full.{fullRefusal, fullWorking, Settled}
 use Rattle.full_working.proofs.Refused.{accepted}
-use Rattle.full_working.proofs.Tests.{standing, passes, not-refused, link-passes, links-pass, still-passes}
 
 -- ---- the full pass
 
@@ -198,7 +199,7 @@ module _ (a : Arm) (sized : length (a .links) ≡ linkLimit) (t : List Float) (l
   unfolding linkFinite finiteKept finitePlace keptAt withPlace fineAfter
   finite-after j h =
       let l = linkAt (m .links) j in
-      let p = both-hold _ _ (passes a passed .floats) in
+      let p = both-hold _ _ (accepted a passed .floats) in
       let q = both-hold _ _ (p .0) in
       let x = linkAt (a .links) j in
       let inputs = both-hold _ (finitePoint (x .shift02)) (both-hold _ (finitePoint (x .shift23)) (link-passes a sized linkFinite (q .0) j h) .0) in
@@ -210,12 +211,12 @@ module _ (a : Arm) (sized : length (a .links) ≡ linkLimit) (t : List Float) (l
 
   angles-after : (j : ℕ) → j < liveLinks a → linkAngleFits (linkAt (m .links) j) ≡ true
   unfolding withPlace
-  angles-after j h = ap linkAngleFits (same-inputs j) ∙ link-passes a sized linkAngleFits (passes a passed .angles) j h
+  angles-after j h = ap linkAngleFits (same-inputs j) ∙ link-passes a sized linkAngleFits (accepted a passed .angles) j h
 
   accepted-after : armRefusal after ≡ 0
   accepted-after =
       not-refused after
-      (still-passes a sized (m .links) sized-after stands (passes a passed)
+      (still-accepted a sized (m .links) sized-after stands (accepted a passed)
       (links-pass after sized-after linkFinite finite-after)
       (links-pass after sized-after linkAngleFits angles-after))
 

@@ -5,10 +5,10 @@ use mathlib.Core.Bool.{true, false}
 use mathlib.Core.List.{List}
 use lib.ListN.{set}
 use lib.Ieee.{Float}
+use Rattle.arm.specs.Setters.{withLinks}
 use Rattle.arm.specs.declared.Arm.{Arm}
 use Rattle.arm.specs.declared.Edited.{Edited}
 use Rattle.kinematics.specs.declared.Refreshed.{Refreshed}
-use Rattle.arm.specs.Edits.{withLinks}
 use Rattle.kinematics.specs.declared.Turned.{Turned}
 use Rattle.kinematics.specs.State.{only}
 use Rattle.kinematics.specs.Answers.{Outcome as Pass, out as left, refreshMarked, turnedOut}

@@ -1,9 +1,10 @@
 // The working of an arm over its lent tables: what every call that works an arm out ends in, the full working, and the empty arm.
 ghost use mathlib.Core.Path.{_≡_};
+ghost use Rattle.arm.specs.Empty.{blankLink, emptyArm};
 ghost use Rattle.full_working.specs.Outcome.{out, tablesFit, workedBy, workedAll};
 ghost use Rattle.full_working.specs.Full.{fullRefusal, fullWorking};
 ghost use Rattle.planar.specs.Poses.{origin};
-ghost use Rattle.full_working.specs.Empty.{blankLink, emptyArm, emptied};
+ghost use Rattle.full_working.specs.Empty.{emptied};
 use arm::Arm;
 use arm::Coupling;
 use arm::Edited;

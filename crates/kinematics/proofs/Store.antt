@@ -8,6 +8,7 @@ use native.Mathlib.Omega.{arith}
 use lib.ListN.{length, set, length-set, length-append, length-replicate}
 use lib.Seq.{getD-set-same, getD-set-other}
 use lib.Ieee.{Float, neg}
+use Rattle.arm.specs.Setters.{withPlace}
 use Rattle.lists.proofs.Parts.{block-same, block-other, block-length, part-length}
 use Rattle.arm.specs.Arm.{noLink, linkAt}
 use Rattle.limits.specs.Limits.{linkLimit, blockSize, tableSize}
@@ -19,7 +20,7 @@ use Rattle.arm.specs.declared.Link.{Link}
 use Rattle.kinematics.specs.declared.Posed.{Posed}
 use Rattle.kinematics.specs.Blocks.{row, plusTimes, shifted, columnAdded, axisAdded, ownAdded}
 use Rattle.masks.specs.Masks.{isFree, dofsBelow}
-use Rattle.kinematics.specs.Link.{Kept, Inputs, blockFrom, keptOf, rootKept, laterKept, withPlace, withKept}
+use Rattle.kinematics.specs.Link.{Kept, Inputs, blockFrom, keptOf, rootKept, laterKept, withKept}
 use Rattle.kinematics.specs.Pass.{Laws}
 use Rattle.kinematics.specs.State.{State, state, inputsOf, keptAt, putKept, keptOps, stateAfter, parentAt}
 use Rattle.kinematics.proofs.Shift.{row-length}

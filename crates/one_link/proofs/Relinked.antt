@@ -4,6 +4,8 @@ use mathlib.Core.Path.{_≡_, refl, sym, ap, _∙_}
 use mathlib.Core.Bool.{Bool, true, _&&_}
 use mathlib.Core.List.{List, map}
 use lib.ListN.{length}
+use Rattle.arm.proofs.Accepted.{Accepted}
+use Rattle.arm.specs.Setters.{withLinks, withPlace}
 use Rattle.lists.proofs.Every.{same-tests}
 use Rattle.lists.proofs.Lists.{same-front}
 use Rattle.lists.specs.Tests.{every}
@@ -14,12 +16,10 @@ use Rattle.topology.specs.Parents.{parentsFit}
 use Rattle.arm.specs.declared.Link.{Link}
 use Rattle.arm.specs.declared.Arm.{Arm}
 use Rattle.arm.specs.Arm.{liveLinks, linksOf, couplingsOf, tagOf, parentOf, lockedOf, tagsOf, parentsOf, masksOf, dofCountOf, entriesTo, rowsOf, noLink, linkAt}
-use Rattle.arm.specs.Edits.{withLinks}
 use Rattle.arm.specs.HandedIn.{unique, tagsUnique, parentsEarlier, linkMasksFit, rootMaskFits, rootFits, jointFinite, linkFinite, rowsFinite, linkAngleFits}
 use Rattle.floats.specs.Floats.{allFinite}
-use Rattle.kinematics.specs.Link.{finitePlace, withPlace}
+use Rattle.kinematics.specs.Link.{finitePlace}
 use Rattle.kinematics.proofs.Store.{blank}
-use Rattle.one_link.proofs.Accepted.{Accepted}
 
 module _ (a : Arm) (ls : List Link) (l : length ls ≡ length (a .links)) (e : (j : ℕ) → blank (linkAt ls j) ≡ blank (linkAt (a .links) j)) where
   of-blank : {B : Type 0} (f : Link → B) → ((x : Link) → f (blank x) ≡ f x) → (j : ℕ) → f (linkAt ls j) ≡ f (linkAt (a .links) j)

@@ -6,11 +6,12 @@ use mathlib.Core.List.{List}
 use native.Mathlib.Omega.{arith}
 use lib.ListN.{length, drop}
 use lib.Ieee.{Float}
+use Rattle.arm.proofs.Accepted.{Accepted, not-refused}
+use Rattle.arm.specs.Setters.{withLinks}
 use Rattle.arm.specs.Sized.{Sized}
 use Rattle.arm.specs.Arm.{linkAt}
 use Rattle.limits.specs.Limits.{linkLimit, tableSize}
 use Rattle.arm.specs.declared.Arm.{Arm}
-use Rattle.arm.specs.Edits.{withLinks}
 use Rattle.kinematics.specs.Blocks.{blockAt}
 use Rattle.kinematics.specs.State.{State, stateAfter, fineAfter}
 use Rattle.full_working.specs.Outcome.{Outcome, says, unlessRefused, workedAll, workedMarked}
@@ -18,7 +19,6 @@ use Rattle.full_working.specs.Full.{fullRefusal, fullWorking, Settled}
 use Rattle.kinematics.specs.Promises.{Fits, Ready}
 use Rattle.one_link.specs.Promise.{Right}
 use Rattle.kinematics.proofs.Promises.{after-good, stays, like-full}
-use Rattle.one_link.proofs.Accepted.{Accepted, not-refused}
 use Rattle.one_link.proofs.Settles.{allState, allFine, workedTo, worked-all, worked-marked, full-is, settles, facts}
 
 -- what a call owes of the arm with the new inputs, and of its marks

@@ -9,6 +9,8 @@ use borrow.Author.Tests.{le-leb, leb-true}
 use lib.ListN.{length, take, drop, replicate, length-replicate, length-append}
 use lib.Seq.{getD-take, length-take-le}
 use lib.Ieee.{Float}
+use Rattle.arm.proofs.Accepted.{Accepted, accepted, not-refused}
+use Rattle.arm.specs.Setters.{withLinks, withPlace}
 use Rattle.lists.proofs.Lists.{same-map}
 use Rattle.lists.proofs.Parts.{block-front, replicated}
 use Rattle.lists.proofs.Every.{every-at, every-of}
@@ -23,11 +25,10 @@ use Rattle.masks.specs.Starts.{startOf}
 use Rattle.arm.specs.declared.Link.{Link}
 use Rattle.arm.specs.declared.Arm.{Arm}
 use Rattle.arm.specs.Arm.{liveLinks, linksOf, noLink, linkAt, lockedOf}
-use Rattle.arm.specs.Edits.{withLinks}
 use Rattle.arm.specs.HandedIn.{linkFinite, armRefusal}
 use Rattle.arm.specs.HandedIn as tests
 use Rattle.kinematics.specs.Blocks.{blockAt, zeroBlock}
-use Rattle.kinematics.specs.Link.{finitePlace, finiteKept, withPlace}
+use Rattle.kinematics.specs.Link.{finitePlace, finiteKept}
 use Rattle.kinematics.specs.State.{State, state, inputsOf, keptAt, keptOps, resultOf, stateAfter, fineAfter, cleared, parentAt, everyLink}
 use Rattle.kinematics.specs.Answers.{passed, refreshMarked, refreshAll}
 use Rattle.kinematics.proofs.Pass.{new-same}
@@ -37,7 +38,6 @@ use Rattle.full_working.specs.Outcome.{Outcome, out, says, unlessRefused, table
 use Rattle.full_working.specs.Full.{fullRefusal, fullWorking, Settled}
 use Rattle.kinematics.specs.Promises.{Fresh, Fits, Ready}
 use Rattle.kinematics.proofs.Promises.{after-good, all-fresh, stays, like-full}
-use Rattle.one_link.proofs.Accepted.{Accepted, accepted, not-refused}
 use Rattle.one_link.proofs.Relinked.{relinked, link-finite}
 
 -- ---- the working of an arm, by the test of its results

@@ -8,6 +8,7 @@ use lib.Dec.{eqb, ltb}
 use lib.ListN.{getD, set}
 use lib.Seq.{getD-set-other}
 use lib.Ieee.{Float, nan}
+use Rattle.arm.specs.Setters.{withInputs}
 use Rattle.lists.proofs.Bools.{both-hold, both}
 use Rattle.floats.specs.Floats.{isFinite, allFinite}
 use Rattle.planar.specs.declared.Rotation.{Rotation}
@@ -15,13 +16,13 @@ use Rattle.planar.specs.Rotation.{rotationAt, isBeyond}
 use Rattle.planar.specs.declared.Point.{Point}
 use Rattle.planar.specs.Poses.{finiteRotation, finitePoint, finitePose}
 use Rattle.multibody_joint.specs.declared.Joint.{Joint}
-use Rattle.multibody_joint.specs.Joint.{withMotion}
+use Rattle.multibody_joint.specs.Joint.{withMotion, withFrames}
 use Rattle.arm.specs.declared.Link.{Link}
 use Rattle.arm.specs.HandedIn.{jointMasksFit, linkMasksFit, jointFinite, linkFinite, angleFits, linkAngleFits}
 use Rattle.kinematics.specs.Link.{Kept}
 use Rattle.one_link_move.specs.declared.Change.{Change}
 use Rattle.one_link_move.specs.declared.Change.the-variants.{Coordinate, Frames, Centre}
-use Rattle.one_link_move.specs.Change.{coordinateSet, withFrames, withInputs, changed}
+use Rattle.one_link_move.specs.Change.{coordinateSet, changed}
 use Rattle.one_link_move.specs.Move.{changeFinite, angleWithin}
 
 -- ---- what stays

@@ -11,6 +11,7 @@ use borrow.Author.Tests.{ltb-true}
 use lib.Dec.{ltb}
 use lib.ListN.{length}
 use lib.Ieee.{Float}
+use Rattle.arm.specs.Setters.{withLinks}
 use Rattle.lists.proofs.Every.{same-tests}
 use Rattle.lists.proofs.Lists.{same-map, same-front}
 use Rattle.arm.specs.Sized.{Sized}
@@ -29,10 +30,9 @@ use Rattle.topology.proofs.Theorems.{marks-right}
 use Rattle.arm.specs.declared.Link.{Link}
 use Rattle.arm.specs.declared.Arm.{Arm}
 use Rattle.arm.specs.Arm.{liveLinks, linksOf, couplingsOf, tagOf, tagsOf, parentsOf, masksOf, dofCountOf, entriesTo, rowsOf, noLink, linkAt, lockedOf, parentOf}
-use Rattle.arm.specs.Edits.{withLinks}
 use Rattle.limits.specs.Limits.{linkLimit}
 use Rattle.arm.specs.HandedIn.{unique, tagsUnique, parentsEarlier, linkMasksFit, rootMaskFits, rootFits, linkFinite, rowsFinite, linkAngleFits, armRefusal}
-use Rattle.arm.proofs.Accepted.{counts-accepted}
+use Rattle.arm.proofs.Accepted.{counts-accepted, Accepted}
 use Rattle.kinematics.specs.Blocks.{blockAt}
 use Rattle.kinematics.specs.Link.{finiteKept}
 use Rattle.kinematics.specs.State.{state, inputsOf, keptAt, keptOps, marked, parentAt}
@@ -40,7 +40,6 @@ use Rattle.kinematics.proofs.Pass.{new-same}
 use Rattle.full_working.specs.Full.{Settled}
 use Rattle.one_link.specs.Above.{aboveFinite}
 use Rattle.kinematics.specs.Promises.{Fresh, Ready}
-use Rattle.one_link.proofs.Accepted.{Accepted}
 use Rattle.one_link.proofs.Parents.{parents-count, parent-of, parent-le}
 use Rattle.one_link.proofs.Settles.{allFine, Facts, facts}
 use Rattle.one_link.proofs.Sticky.{rotations-finite}

@@ -7,6 +7,8 @@ use native.Mathlib.Omega.{arith}
 use lib.ListN.{length, take, getD, set}
 use lib.Seq.{set-set, set-getD}
 use lib.Ieee.{Float}
+use Rattle.arm.specs.Inner.{handedIn}
+use Rattle.arm.specs.Setters.{withLinks}
 use Rattle.limits.specs.Limits.{linkLimit}
 use Rattle.masks.specs.Starts.{startOf}
 use Rattle.topology.specs.Parents.{marks}
@@ -15,8 +17,6 @@ use Rattle.arm.specs.declared.Edited.{Edited}
 use Rattle.arm.specs.declared.HandedIn.{HandedIn}
 use Rattle.arm.specs.declared.Link.{Link}
 use Rattle.arm.specs.Arm.{liveLinks, parentsOf}
-use Rattle.arm.specs.Edits.{withLinks}
-use Rattle.arm.specs.HandedIn.{handedIn}
 use Rattle.arm.proofs.Handed.{found-parents, found-masks}
 use Rattle.arm.proofs.Live.{parents-live}
 use Rattle.kinematics.specs.declared.Refreshed.{Refreshed}

@@ -4,6 +4,7 @@ use mathlib.Core.Path.{_≡_, ap}
 use borrow.Author.Tests.{lt-ltb, le-ltb, eq-eqb, ne-eqb}
 use lib.ListN.{getD, set}
 use lib.Ieee.{Float}
+use Rattle.arm.specs.Setters.{withLinks}
 use Rattle.lists.proofs.Modified.{set-modify}
 use Rattle.planar.specs.declared.Rotation.{Rotation}
 use Rattle.planar.specs.Rotation.{rotationAt}
@@ -11,7 +12,6 @@ use Rattle.multibody_joint.specs.declared.Joint.{Joint}
 use Rattle.multibody_joint.specs.Joint.{withMotion}
 use Rattle.arm.specs.declared.Link.{Link}
 use Rattle.arm.specs.declared.Arm.{Arm}
-use Rattle.arm.specs.Edits.{withLinks}
 use Rattle.one_link_move.specs.declared.Change.{Change}
 use Rattle.one_link_move.specs.Change.{coordinateSet, changed, movedInputs}
 

@@ -4,6 +4,7 @@ use mathlib.Core.Bool.{cond}
 use lib.Dec.{eqb, ltb}
 use lib.ListN.{set}
 use lib.Ieee.{Float}
+use Rattle.arm.specs.Setters.{withLinks}
 use Rattle.lists.specs.Lists.{modify}
 use Rattle.planar.specs.declared.Point.{Point}
 use Rattle.planar.specs.declared.Pose.{Pose}
@@ -12,7 +13,6 @@ use Rattle.multibody_joint.specs.declared.Joint.{Joint}
 use Rattle.multibody_joint.specs.Joint.{withMotion}
 use Rattle.arm.specs.declared.Link.{Link}
 use Rattle.arm.specs.declared.Arm.{Arm}
-use Rattle.arm.specs.Edits.{withLinks}
 use Rattle.one_link_move.specs.declared.Change.{Change}
 use Rattle.one_link_move.specs.declared.Change.the-variants.{Coordinate, Frames, Centre}
 

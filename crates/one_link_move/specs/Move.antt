@@ -5,6 +5,7 @@ use mathlib.Core.List.{List, [], _∷_}
 use lib.Dec.{eqb, leb, ltb}
 use lib.ListN.{length}
 use lib.Ieee.{Float}
+use Rattle.arm.specs.Setters.{withLinks}
 use Rattle.lists.specs.Numbers.{allBelow}
 use Rattle.refusal.specs.Refusal.{unlessOf, lowest}
 use Rattle.floats.specs.Floats.{isFinite}
@@ -16,7 +17,6 @@ use Rattle.arm.specs.declared.Arm.{Arm}
 use Rattle.arm.specs.declared.Edited.{Edited}
 use Rattle.arm.specs.declared.Link.{Link}
 use Rattle.arm.specs.Arm.{parentsOf, maskAt}
-use Rattle.arm.specs.Edits.{withLinks}
 use Rattle.arm.specs.HandedIn.{armRefusal}
 use Rattle.kinematics.specs.State.{marked}
 use Rattle.full_working.specs.Outcome.{Outcome, unlessRefused, tablesFit, workedMarked}

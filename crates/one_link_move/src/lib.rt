@@ -1,11 +1,11 @@
 // A one-link move: one free coordinate, both frames or the centre of mass of a link is set; then it and the links below it are worked out from what is
 // kept of its parent.
 ghost use mathlib.Core.Path.{_≡_};
+ghost use Rattle.arm.specs.Inner.{handedIn};
 ghost use Rattle.masks.specs.Masks.{isFree};
 ghost use Prim.Native.Nat.{min};
 ghost use lib.ListN.{take};
 ghost use Rattle.limits.specs.Limits.{linkLimit};
-ghost use Rattle.arm.specs.HandedIn.{handedIn};
 ghost use Rattle.topology.specs.Parents.{marks, parentIn};
 ghost use Rattle.full_working.specs.Outcome.{out};
 ghost use Rattle.one_link_move.specs.Change.{coordinateSet, changed};

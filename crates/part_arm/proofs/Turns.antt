@@ -8,6 +8,7 @@ use lib.ListN.{length, drop, getD, set, length-drop}
 use borrow.Author.Tests.{lt-leb}
 use lib.Seq.{length-take-le}
 use lib.Ieee.{Float}
+use Rattle.arm.specs.Empty.{blankRow, emptyArm}
 use Rattle.lists.proofs.Gathered.{Laid, chosen-le, laid-as, laid-skip, laid-one, laid-part}
 use Rattle.lists.specs.Lists.{part, withPart}
 use Rattle.limits.specs.Limits.{linkLimit, couplingLimit, dofLimit, tableSize}
@@ -20,7 +21,7 @@ use Rattle.arm.specs.declared.Edited.{Edited}
 use Rattle.arm.specs.Arm.{liveLinks, maskAt, startAt, linkAt, couplingAt}
 use Rattle.arm.proofs.Live.{dof-count-le, mask-there, start-more, start-within}
 use Rattle.full_working.specs.Outcome.{Outcome, out}
-use Rattle.full_working.specs.Empty.{blankRow, emptyArm, emptied}
+use Rattle.full_working.specs.Empty.{emptied}
 use Rattle.part_arm.specs.declared.LinksOut.{LinksOut}
 use Rattle.part_arm.specs.declared.CouplingsOut.{CouplingsOut}
 use Rattle.part_arm.specs.Places.{Places, goesOn}

@@ -1,8 +1,8 @@
 -- The links and the couplings of a part with their counts, as a pass over the arm leaves them.
 use lib.ListN.{length}
+use Rattle.arm.specs.Empty.{emptyArm}
 use Rattle.lists.specs.Lists.{laid}
 use Rattle.arm.specs.declared.Arm.{Arm}
-use Rattle.full_working.specs.Empty.{emptyArm}
 use Rattle.part_arm.specs.declared.LinksOut.{LinksOut}
 use Rattle.part_arm.specs.declared.CouplingsOut.{CouplingsOut}
 use Rattle.part_arm.specs.Places.{Places}

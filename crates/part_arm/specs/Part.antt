@@ -4,6 +4,7 @@ use mathlib.Core.Bool.{Bool, cond, _&&_}
 use mathlib.Core.List.{List, [], map}
 use lib.ListN.{length, take, drop, getD}
 use lib.Ieee.{Float, nan}
+use Rattle.arm.specs.Empty.{blankRow, emptyArm}
 use Rattle.lists.specs.Lists.{laid}
 use Rattle.lists.specs.Numbers.{gathered, chosen}
 use Rattle.limits.specs.Limits.{couplingLimit}
@@ -15,7 +16,6 @@ use Rattle.arm.specs.declared.Coupling.{Coupling}
 use Rattle.arm.specs.declared.Row.{Row}
 use Rattle.arm.specs.declared.Arm.{Arm}
 use Rattle.arm.specs.Arm.{liveLinks, maskAt, startAt, linkAt}
-use Rattle.full_working.specs.Empty.{blankRow, emptyArm}
 use Rattle.part_arm.specs.Places.{Places, goesOn}
 
 -- ---- links

@@ -5,7 +5,9 @@ use mathlib.Core.Logic.{_⊎_, inl, inr}
 use mathlib.Core.List.{List, [], _∷_}
 use native.Mathlib.Nat.{eq-zero-or-pos}
 use native.Mathlib.Omega.{arith}
-use Rattle.refusal.specs.Refusal.{lowerOf, lowest, In, Lowest}
+use mathlib.Core.Bool.{Bool, true}
+use Rattle.refusal.specs.Refusal.{unlessOf, lowerOf, lowest, In, Lowest}
+use Rattle.refusal.proofs.Tests.{holds}
 
 -- ---- which of two is the lower
 
@@ -86,3 +88,17 @@ pub is-lowest : (ks : List ℕ) → Lowest ks (lowest ks)
 is-lowest [] = record { none = λ e k i. absurd i; given = λ h. absurd (h refl); least = λ k i. absurd i }
 is-lowest (k ∷ []) = alone k
 is-lowest (k ∷ j ∷ ks) = more k (lowest (j ∷ ks)) (j ∷ ks) (is-lowest (j ∷ ks))
+
+-- ---- a list of tests that gives no refusal: each test holds
+
+pub holds-in : (ks : List ℕ) → lowest ks ≡ 0 → (b : Bool) (k : ℕ) → In (unlessOf b (suc k)) ks → b ≡ true
+holds-in ks e b k i = holds b k (is-lowest ks .none e (unlessOf b (suc k)) i)
+
+pub first-holds : (b : Bool) (k : ℕ) (ks : List ℕ) → lowest (unlessOf b (suc k) ∷ ks) ≡ 0 → b ≡ true
+first-holds b k ks e = holds-in (unlessOf b (suc k) ∷ ks) e b k (inl refl)
+
+pub rest-accepted : (k : ℕ) (ks : List ℕ) → lowest (k ∷ ks) ≡ 0 → lowest ks ≡ 0
+rest-accepted k ks e = elim (eq-zero-or-pos (lowest ks)) [
+  | inl z ↦ z
+  | inr l ↦ is-lowest (k ∷ ks) .none e (lowest ks) (inr (is-lowest ks .given (λ z. omega arith)))
+]

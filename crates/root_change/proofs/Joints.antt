@@ -4,23 +4,23 @@ use mathlib.Core.Path.{_≡_}
 use mathlib.Core.List.{List}
 use borrow.Author.Tests.{eq-eqb, ne-eqb}
 use lib.ListN.{set}
+use Rattle.arm.proofs.Relinked.{withParts}
 use Rattle.arm.specs.Arm.{noLink, linkAt}
 use Rattle.lists.proofs.Modified.{set-modify}
 use Rattle.planar.specs.declared.Pose.{Pose}
 use Rattle.multibody_joint.specs.declared.Joint.{Joint}
-use Rattle.multibody_joint.specs.Joint.{freeJoint, fixedJoint, freePosSet}
+use Rattle.multibody_joint.specs.Joint.{freeJoint, fixedJoint, freePosSet, withFrames}
 use Rattle.arm.specs.declared.Link.{Link}
 use Rattle.arm.specs.declared.Row.{Row}
 use Rattle.arm.specs.declared.Arm.{Arm}
-use Rattle.full_working.proofs.Tests.{withParts}
-use Rattle.root_change.specs.Root.{withFrame1, rootJoint, rootLink, rootRows, rootChanged}
+use Rattle.root_change.specs.Root.{rootJoint, rootLink, rootRows, rootChanged}
 
 module _ (locked : ℕ) (p : Pose) (j : Joint) where
   pub free-stays : j .locked ≡ locked → locked ≡ 0 → {r : Joint} → r ≡ freePosSet j p → r ≡ rootJoint locked p j
   unfolding rootJoint
   free-stays e z q = rw (eq-eqb (j .locked) locked e, eq-eqb locked 0 z) q
 
-  pub fixed-stays : j .locked ≡ locked → (locked ≡ 0 → ⊥) → withFrame1 j p ≡ rootJoint locked p j
+  pub fixed-stays : j .locked ≡ locked → (locked ≡ 0 → ⊥) → withFrames j p ≡ rootJoint locked p j
   unfolding rootJoint
   fixed-stays e n = rw (eq-eqb (j .locked) locked e, ne-eqb locked 0 n)
 

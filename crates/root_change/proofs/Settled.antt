@@ -11,6 +11,8 @@ use lib.Dec.{eqb, ltb}
 use lib.ListN.{length, take, drop, getD, replicate}
 use lib.Seq.{take-take}
 use lib.Ieee.{Float, nan, ofBits, lt}
+use Rattle.arm.proofs.Relinked.{link-passes, links-pass, tags-stay, numbers-stay}
+use Rattle.arm.proofs.Accepted.{Accepted, accepted, not-refused}
 use Rattle.lists.proofs.Modified.{length-modify, modify-same, modify-other}
 use Rattle.lists.proofs.Every.{every-map, every-at, every-of, every-take}
 use Rattle.lists.specs.Tests.{every}
@@ -18,7 +20,7 @@ use Rattle.lists.specs.Lists.{modify}
 use Rattle.lists.proofs.Bools.{both-hold, both}
 use Rattle.limits.specs.Limits.{linkLimit, dofLimit}
 use Rattle.refusal.specs.Refusal.{unlessOf}
-use Rattle.refusal.proofs.Laws.{is-lowest}
+use Rattle.refusal.proofs.Laws.{is-lowest, holds-in}
 use Rattle.floats.specs.Floats.{zero32, isFinite, allFinite}
 use Rattle.floats.proofs.FiniteRows.{zero-finite}
 use Rattle.masks.specs.Masks.{dofsOf}
@@ -28,7 +30,7 @@ use Rattle.planar.specs.declared.Pose.{Pose}
 use Rattle.planar.specs.Rotation.{isBeyond}
 use Rattle.planar.specs.Poses.{rotationOf, translationOf, isTurn, finiteRotation, finitePoint, finitePose}
 use Rattle.multibody_joint.specs.declared.Joint.{Joint}
-use Rattle.multibody_joint.specs.Joint.{freeJoint, fixedJoint, freePosSet}
+use Rattle.multibody_joint.specs.Joint.{freeJoint, fixedJoint, freePosSet, withFrames}
 use Rattle.arm.specs.declared.Link.{Link}
 use Rattle.arm.specs.declared.Row.{Row}
 use Rattle.arm.specs.declared.Arm.{Arm}
@@ -36,9 +38,8 @@ use Rattle.arm.specs.Arm.{liveLinks, linksOf, couplingsOf, tagOf, parentOf, loc
 use Rattle.arm.specs.HandedIn.{tagsUnique, linkNumbersFit, jointMasksFit, linkMasksFit, rootMaskFits, rootFits, couplingAxesFit, masksAndAxesFit, jointFinite, linkFinite, couplingFinite, rowsFinite, floatsFinite, angleFits, linkAngleFits, anglesFit, armRefusal}
 use Rattle.arm.proofs.Live.{dof-count-le}
 use Rattle.full_working.specs.Outcome.{tablesFit}
-use Rattle.full_working.proofs.Tests.{Passes, holds-in, passes, not-refused, link-passes, links-pass, tags-stay, numbers-stay}
 use Rattle.full_working.proofs.Again.{call-settles, call-keeps, call-joint}
-use Rattle.root_change.specs.Root.{isRootMask, withFrame1, rootJoint, rootLink, widened, narrowed, rootRow, rootMask, rootRows, rootChanged, rootRefusal, changedRoot}
+use Rattle.root_change.specs.Root.{isRootMask, rootJoint, rootLink, widened, narrowed, rootRow, rootMask, rootRows, rootChanged, rootRefusal, changedRoot}
 use Rattle.root_change.specs.Promises.{RootSettles, RootKeeps}
 
 -- ---- the joint
@@ -57,11 +58,11 @@ root-kind a w h = first (a .links) (liveLinks a) (omega arith) (omega arith)
     first (x ∷ ls) (suc n) p l = refl
 
 -- what holds of each of the four joints holds of the root's
-by-type : (P : Joint → Type 0) (locked : ℕ) (p : Pose) (j : Joint) → P (freePosSet j p) → P (withFrame1 j p) → P (freeJoint p) → P (fixedJoint p) → P (rootJoint locked p j)
+by-type : (P : Joint → Type 0) (locked : ℕ) (p : Pose) (j : Joint) → P (freePosSet j p) → P (withFrames j p) → P (freeJoint p) → P (fixedJoint p) → P (rootJoint locked p j)
 unfolding rootJoint
 by-type P locked p j a b c d = go (eqb (j .locked) locked) (eqb locked 0)
   where
-    go : (s f : Bool) → P (cond s (cond f (freePosSet j p) (withFrame1 j p)) (cond f (freeJoint p) (fixedJoint p)))
+    go : (s f : Bool) → P (cond s (cond f (freePosSet j p) (withFrames j p)) (cond f (freeJoint p) (fixedJoint p)))
     go true true = a
     go true false = b
     go false true = c
@@ -76,11 +77,11 @@ kinds locked k = go (eqb locked 7) refl (eqb locked 0) refl k
     go false e false f h = absurd (true≢false (sym h))
 
 pub root-locked : (locked : ℕ) (p : Pose) (j : Joint) → Kind locked → rootJoint locked p j .locked ≡ locked
-unfolding rootJoint freePosSet withFrame1 freeJoint fixedJoint
+unfolding rootJoint freePosSet withFrames freeJoint fixedJoint
 root-locked locked p j k = go (eqb (j .locked) locked) refl (eqb locked 0) refl
   where
     go : (s : Bool) → eqb (j .locked) locked ≡ s → (f : Bool) → eqb locked 0 ≡ f
-        → cond s (cond f (freePosSet j p) (withFrame1 j p)) (cond f (freeJoint p) (fixedJoint p)) .locked ≡ locked
+        → cond s (cond f (freePosSet j p) (withFrames j p)) (cond f (freeJoint p) (fixedJoint p)) .locked ≡ locked
     go true e true h = eqb-true (j .locked) locked e
     go true e false h = eqb-true (j .locked) locked e
     go false e true h = sym (eqb-true locked 0 h)
@@ -88,15 +89,15 @@ root-locked locked p j k = go (eqb (j .locked) locked) refl (eqb locked 0) refl
 
 module _ (locked : ℕ) (p : Pose) (j : Joint) where
   masks-fit : jointMasksFit j ≡ true → jointMasksFit (rootJoint locked p j) ≡ true
-  unfolding jointMasksFit freePosSet withFrame1 freeJoint fixedJoint
+  unfolding jointMasksFit freePosSet withFrames freeJoint fixedJoint
   masks-fit h = by-type (λ (k : Joint). jointMasksFit k ≡ true) locked p j h h refl refl
 
   angle-stays : angleFits j ≡ true → angleFits (rootJoint locked p j) ≡ true
-  unfolding angleFits isBeyond lt ofBits freePosSet withFrame1 freeJoint fixedJoint
+  unfolding angleFits isBeyond lt ofBits freePosSet withFrames freeJoint fixedJoint
   angle-stays h = by-type (λ (k : Joint). angleFits k ≡ true) locked p j h h refl refl
 
   finite-stays : length (j .coordinates) ≡ 3 → finitePose p ≡ true → jointFinite j ≡ true → jointFinite (rootJoint locked p j) ≡ true
-  unfolding jointFinite finitePose finiteRotation finitePoint rotationOf translationOf ofBits freePosSet withFrame1 freeJoint fixedJoint
+  unfolding jointFinite finitePose finiteRotation finitePoint rotationOf translationOf ofBits freePosSet withFrames freeJoint fixedJoint
   finite-stays three f h =
       let turn = both-hold (isFinite (p .re) && isFinite (p .im)) (isFinite (p .x) && isFinite (p .y)) f in
       let place = both-hold (isFinite (p .x)) (isFinite (p .y)) (turn .1) in
@@ -119,7 +120,7 @@ module _ (locked : ℕ) (p : Pose) (j : Joint) where
       third (x ∷ y ∷ z ∷ xs) l e = both-hold (isFinite z) _ (both-hold (isFinite y) _ (both-hold (isFinite x) _ e .1) .1) .0
 
   three-stay : length (j .coordinates) ≡ 3 → length (rootJoint locked p j .coordinates) ≡ 3
-  unfolding freePosSet withFrame1 freeJoint fixedJoint
+  unfolding freePosSet withFrames freeJoint fixedJoint
   three-stay h = by-type (λ (k : Joint). length (k .coordinates) ≡ 3) locked p j refl h refl refl
 
 -- ---- a row
@@ -210,8 +211,8 @@ module _ (a : Arm) (sized : length (a .links) ≡ linkLimit) (three : length (li
   abbrev new : Arm
   new = rootChanged a locked p
 
-  was : Passes a
-  was = passes a old
+  was : Accepted a
+  was = accepted a old
 
   sized-after : length ls ≡ linkLimit
   sized-after = length-modify change 0 (a .links) ∙ sized
@@ -224,7 +225,7 @@ module _ (a : Arm) (sized : length (a .links) ≡ linkLimit) (three : length (li
   view-stays g e zero h = ap g root-at ∙ e
   view-stays g e (suc j) h = ap g (modify-other change 0 (suc j) (a .links) noLink (λ e. omega arith))
 
-  -- what the new root passes, every link does
+  -- what the new root accepted, every link does
   test-stays : (test : Link → Bool) → every test (linksOf a) ≡ true → (test (linkAt (a .links) 0) ≡ true → test (change (linkAt (a .links) 0)) ≡ true) → (j : ℕ) → j < liveLinks a → test (linkAt ls j) ≡ true
   test-stays test e f zero h = ap test root-at ∙ f (link-passes a sized test e 0 h)
   test-stays test e f (suc j) h = ap test (modify-other change 0 (suc j) (a .links) noLink (λ e. omega arith)) ∙ link-passes a sized test e (suc j) h

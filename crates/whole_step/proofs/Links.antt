@@ -7,6 +7,7 @@ use native.Mathlib.Numerals.{add-one}
 use lib.ListN.{length, take, drop, getD, set, length-map, length-set}
 use lib.Seq.{drop-cons, set-at, getD-at, getD-take, length-take-le}
 use lib.Ieee.{Float}
+use Rattle.arm.specs.Setters.{withLinks}
 use Rattle.lists.proofs.Lists.{map-at, tail}
 use Rattle.lists.proofs.Numbers.{length-each}
 use Rattle.lists.specs.Numbers.{each}
@@ -17,7 +18,6 @@ use Rattle.masks.proofs.Totals.{start-next, start-le}
 use Rattle.arm.specs.declared.Link.{Link}
 use Rattle.arm.specs.declared.Arm.{Arm}
 use Rattle.arm.specs.Arm.{liveLinks, linksOf, lockedOf, masksOf, startAt, noLink, linkAt}
-use Rattle.arm.specs.Edits.{withLinks}
 use Rattle.whole_step.specs.Step.{linkIntegrated, velocitiesOf, linkAfter, linksAfter, armAfter}
 
 module _ (ls : List Link) (n : ℕ) where

@@ -9,12 +9,14 @@ use native.Mathlib.Nat.{eq-zero-or-pos}
 use native.Mathlib.Omega.{arith}
 use lib.ListN.{length, drop, length-append, length-drop, List·getD-append}
 use lib.Ieee.{Float}
+use Rattle.arm.proofs.Accepted.{accepted, not-refused}
+use Rattle.arm.proofs.Relinked.{standing, link-passes, links-pass, still-accepted}
 use Rattle.lists.proofs.Numbers.{length-each, getD-each}
 use Rattle.lists.specs.Numbers.{each}
 use Rattle.lists.proofs.Bools.{both-hold, both}
 use Rattle.limits.specs.Limits.{linkLimit}
 use Rattle.refusal.specs.Refusal.{unlessOf}
-use Rattle.refusal.proofs.Laws.{is-lowest}
+use Rattle.refusal.proofs.Laws.{is-lowest, holds-in}
 use Rattle.floats.specs.Floats.{isFinite}
 use Rattle.planar.specs.Poses.{finitePoint, finitePose}
 use Rattle.multibody_joint.specs.declared.Joint.{Joint}
@@ -24,7 +26,6 @@ use Rattle.arm.specs.declared.Arm.{Arm}
 use Rattle.arm.specs.Arm.{liveLinks, noLink, linkAt}
 use Rattle.arm.specs.HandedIn.{jointFinite, linkFinite, anglesFit, armRefusal}
 use Rattle.full_working.specs.Outcome.{tablesFit}
-use Rattle.full_working.proofs.Tests.{standing, holds-in, passes, not-refused, link-passes, links-pass, still-passes}
 use Rattle.full_working.proofs.Again.{call-settles, call-keeps, call-joint}
 use Rattle.whole_step.specs.Step.{linkIntegrated, linkAfter, linksAfter, velocitiesOf, armAfter, linkJointFinite, jointsFinite, stepRefusal, wholeStep}
 use Rattle.whole_step.specs.Promises.{StepSettles, StepKeeps}
@@ -63,7 +64,7 @@ module _ (a : Arm) (sized : length (a .links) ≡ linkLimit) (dt : Float) where
     unfolding armAfter linkFinite linkAfter linkIntegrated
     finite-after j h =
         let x = linkAt (a .links) j in
-        let p = both-hold _ _ (both-hold _ _ (passes a old .floats) .0) in
+        let p = both-hold _ _ (both-hold _ _ (accepted a old .floats) .0) in
         let f23 = both-hold _ (finitePoint (x .shift23)) (link-passes a sized linkFinite (p .0) j h) in
         let f02 = both-hold _ (finitePoint (x .shift02)) (f23 .0) in
         let fw = both-hold _ (finitePose (x .world)) (f02 .0) in
@@ -73,7 +74,7 @@ module _ (a : Arm) (sized : length (a .links) ≡ linkLimit) (dt : Float) where
 
     accepted-after : armRefusal new ≡ 0
     unfolding armAfter
-    accepted-after = not-refused new (still-passes a sized (linksAfter a vs dt) sized-after stands (passes a old) (links-pass new sized-after linkFinite finite-after) angles)
+    accepted-after = not-refused new (still-accepted a sized (linksAfter a vs dt) sized-after stands (accepted a old) (links-pass new sized-after linkFinite finite-after) angles)
 
   changed : (t : List Float) → stepRefusal a new t dt ≡ 0 → armRefusal new ≡ 0
   unfolding stepRefusal

@@ -4,6 +4,7 @@ use mathlib.Core.Bool.{Bool}
 use mathlib.Core.List.{List, [], _∷_, _++_}
 use lib.ListN.{drop, getD}
 use lib.Ieee.{Float}
+use Rattle.arm.specs.Setters.{withLinks, withJoint}
 use Rattle.lists.specs.Tests.{every}
 use Rattle.lists.specs.Numbers.{each}
 use Rattle.refusal.specs.Refusal.{unlessOf, lowest}
@@ -13,7 +14,6 @@ use Rattle.arm.specs.declared.Link.{Link}
 use Rattle.arm.specs.declared.RowName.the-variants.{Velocities}
 use Rattle.arm.specs.declared.Arm.{Arm}
 use Rattle.arm.specs.Arm.{liveLinks, linksOf, startAt, rowNumber, linkAt}
-use Rattle.arm.specs.Edits.{withLinks, withJoint}
 use Rattle.arm.specs.HandedIn.{jointFinite, anglesFit, armRefusal}
 use Rattle.full_working.specs.Outcome.{Outcome, unlessRefused, tablesFit, workedAll}
 use Rattle.whole_step.specs.declared.StepTests.{StepTests}

@@ -1,7 +1,7 @@
 -- `arm_refusal`: what is found, its number. Assumes nothing.
-use Rattle.arm.specs.HandedIn.{handedIn}
 use mathlib.Core.Path.{ap}
 use borrow.Author.Needs.{needs}
+use Rattle.arm.specs.Inner.{handedIn}
 use Rattle.arm.specs.declared.HandedIn.{HandedIn}
 use Rattle.arm.proofs.arm_refusal.Statement.{statement}
 use Rattle.arm.proofs.arm_refusal.Tie as tie

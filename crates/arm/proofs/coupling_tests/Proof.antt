@@ -5,10 +5,11 @@ use Prim.Native.Nat.{_-_, _≤_, ℕ, min}
 use mathlib.Core.Path.{_≡_, refl}
 use native.Mathlib.Omega.{arith}
 use borrow.Author.Needs.{needs}
+use Rattle.arm.specs.Inner.{couplingTestsOf}
 use Rattle.lists.proofs.Every.{Tested, front-more, front-all}
 use Rattle.limits.specs.Limits.{couplingLimit}
 use Rattle.arm.specs.Arm.{couplingsOf}
-use Rattle.arm.specs.HandedIn.{couplingAxesFit, couplingFinite, couplingLinksFit, couplingTestsOf}
+use Rattle.arm.specs.HandedIn.{couplingAxesFit, couplingFinite, couplingLinksFit}
 use Rattle.arm.specs.declared.Arm.{Arm}
 use Rattle.arm.specs.declared.CouplingTests.{CouplingTests}
 use Rattle.arm.proofs.Shape.{couplings-length}

@@ -2,11 +2,11 @@
 use Prim.Native.Nat.{min}
 use lib.ListN.{take, length-take}
 use native.Mathlib.Omega.{arith}
+use Rattle.arm.specs.Inner.{dofAmong}
 use Rattle.limits.specs.Limits.{linkLimit}
 use Rattle.masks.proofs.Laws.{dofs-le, below-le}
 use Rattle.masks.proofs.Totals.{total-le}
 use Rattle.arm.proofs.Live.{within}
-use Rattle.arm.specs.Edits.{dofAmong}
 use borrow.Author.Needs.{needs}
 use Rattle.arm.proofs.dof_among.Statement.{statement}
 use Rattle.arm.proofs.dof_among.Tie as tie

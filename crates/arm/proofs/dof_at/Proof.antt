@@ -3,8 +3,9 @@ use mathlib.Core.Path.{_∙_, ap}
 use Prim.Native.Nat.{ℕ}
 use mathlib.Core.List.{List}
 use lib.ListN.{take}
+use Rattle.arm.specs.Inner.{dofAmong}
 use Rattle.arm.specs.Arm.{liveLinks, maskAt, startAt}
-use Rattle.arm.specs.Edits.{dofAmong, dofAt}
+use Rattle.arm.specs.Edits.{dofAt}
 use Rattle.arm.proofs.Shape.{links-length}
 use Rattle.arm.proofs.Live.{masks-front}
 use borrow.Author.Needs.{needs}

@@ -5,6 +5,7 @@ use mathlib.Core.List.{List}
 use mathlib.Core.Path.{_≡_, refl, sym, _∙_, ap}
 use native.Mathlib.Omega.{arith}
 use lib.ListN.{length, take}
+use Rattle.arm.specs.Inner.{rowFinite, linkTestsOf, couplingTestsOf, padded, handedIn}
 use Rattle.arm.proofs.Padded.{padded-front}
 use Rattle.lists.proofs.Every.{every-map}
 use Rattle.lists.specs.Tests.{every}
@@ -20,7 +21,7 @@ use Rattle.arm.specs.declared.HandedIn.{HandedIn}
 use Rattle.arm.specs.declared.LinkTests.{LinkTests}
 use Rattle.arm.specs.declared.CouplingTests.{CouplingTests}
 use Rattle.arm.specs.Arm.{liveLinks, tagsOf, parentsOf, masksOf, dofCountOf, entriesTo, rowsOf}
-use Rattle.arm.specs.HandedIn.{unique, tagsUnique, parentsEarlier, rootMaskFits, rootFits, rowFinite, rowsFinite, countsFit, linkTestsOf, couplingTestsOf, armEntries, armRefusal, padded, handedIn}
+use Rattle.arm.specs.HandedIn.{unique, tagsUnique, parentsEarlier, rootMaskFits, rootFits, rowsFinite, countsFit, armEntries, armRefusal}
 use Rattle.arm.proofs.Live.{masks-le, tags-live, parents-live, masks-live, dof-count-le}
 use Rattle.arm.proofs.Shape.{links-length}
 use borrow.Author.Needs.{needs}

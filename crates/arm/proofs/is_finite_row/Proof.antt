@@ -2,7 +2,7 @@
 use native.Mathlib.Nat.{sub-zero}
 use native.Mathlib.Omega.{arith}
 use borrow.Author.Needs.{needs}
-use Rattle.arm.specs.HandedIn.{rowFinite}
+use Rattle.arm.specs.Inner.{rowFinite}
 use Rattle.arm.proofs.Shape.{row-length}
 use Rattle.arm.proofs.is_finite_row.Statement.{statement}
 use Rattle.arm.proofs.is_finite_row.Tie as tie

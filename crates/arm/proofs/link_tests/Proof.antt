@@ -2,12 +2,13 @@
 use Prim.Native.Nat.{ℕ, _+_, _-_, _≤_, _<_}
 use native.Mathlib.Numerals.{add-one}
 use lib.ListN.{length, length-map, take, getD, set}
+use Rattle.arm.specs.Inner.{linkTestsOf, padded}
 use Rattle.lists.proofs.Every.{Tested, tested-failed, front-more, front-next, front-all}
 use Rattle.lists.proofs.Lists.{map-at}
 use Rattle.arm.proofs.Padded.{padded-more, length-padded}
 use Rattle.limits.specs.Limits.{linkLimit}
 use Rattle.arm.specs.Arm.{liveLinks, linksOf, tagOf, parentOf, lockedOf}
-use Rattle.arm.specs.HandedIn.{linkAngleFits, linkFinite, linkMasksFit, linkTestsOf, padded}
+use Rattle.arm.specs.HandedIn.{linkAngleFits, linkFinite, linkMasksFit}
 use Rattle.arm.specs.declared.Arm.{Arm}
 use Rattle.arm.specs.declared.Link.{Link}
 use Rattle.arm.specs.declared.LinkTests.{LinkTests}

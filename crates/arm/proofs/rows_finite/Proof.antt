@@ -4,8 +4,8 @@ use Prim.Native.Nat.{_-_, _≤_}
 use mathlib.Core.Path.{_≡_, refl}
 use native.Mathlib.Omega.{arith}
 use borrow.Author.Needs.{needs}
+use Rattle.arm.specs.Inner.{rowFinite}
 use Rattle.lists.proofs.Every.{Tested, tested-more, tested-all}
-use Rattle.arm.specs.HandedIn.{rowFinite}
 use Rattle.arm.proofs.rows_finite.Statement.{statement}
 use Rattle.arm.proofs.rows_finite.Tie as tie
 

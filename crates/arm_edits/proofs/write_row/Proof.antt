@@ -3,16 +3,16 @@ use Prim.Native.Nat.{ℕ}
 use mathlib.Core.Path.{_≡_, _∙_, sym, ap}
 use mathlib.Core.List.{List}
 use lib.ListN.{length, take}
+use Rattle.arm.specs.Inner.{handedIn, dofAmong}
 use Rattle.limits.specs.Limits.{linkLimit}
 use Rattle.arm.specs.declared.HandedIn.{HandedIn}
 use Rattle.arm.specs.Arm.{liveLinks, startAt, maskAt}
-use Rattle.arm.specs.HandedIn.{handedIn}
 use Rattle.arm.proofs.Handed.{found-masks}
 use native.Mathlib.Omega.{arith}
 use borrow.Author.Needs.{needs}
 use Rattle.arm.specs.declared.Arm.{Arm}
 use Rattle.arm.specs.declared.Edited.{Edited}
-use Rattle.arm.specs.Edits.{edited, dofAmong, dofAt}
+use Rattle.arm.specs.Edits.{edited, dofAt}
 use Rattle.arm.proofs.Accepted.{live}
 use Rattle.arm.proofs.Edits.{edited-none, edited-some, row-there, dof-in-row}
 use Rattle.arm.proofs.Shape.{links-length}

@@ -1,8 +1,9 @@
 -- `with_change`: each variant is its case of the definition. Assumes nothing.
 use mathlib.Core.Path.{sym, ap, _∙_}
+use Rattle.arm.specs.Setters.{withInputs}
 use Rattle.multibody_joint.specs.declared.Joint.{Joint}
 use Rattle.one_link_move.specs.declared.Change.{Change}
-use Rattle.one_link_move.specs.Change.{changed, withInputs}
+use Rattle.one_link_move.specs.Change.{changed}
 use borrow.Author.Needs.{needs}
 use Rattle.one_link_move.proofs.with_change.Statement.{statement}
 use Rattle.one_link_move.proofs.with_change.Tie as tie

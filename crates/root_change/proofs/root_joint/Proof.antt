@@ -1,7 +1,7 @@
 -- `root_joint`: each branch is its case of the definition. Assumes nothing.
 use borrow.Author.Needs.{needs}
+use Rattle.multibody_joint.specs.Joint.{withFrames}
 use Rattle.root_change.proofs.Joints.{free-stays, fixed-stays, turns-free, turns-fixed}
-use Rattle.root_change.specs.Root.{withFrame1}
 use Rattle.root_change.proofs.root_joint.Statement.{statement}
 use Rattle.root_change.proofs.root_joint.Tie as tie
 
@@ -17,7 +17,7 @@ returns c =
     free-stays (own .locked) (own .pose) (own .j) (c .before .before .if1 .taken) (c .before .if2 .taken) (c .set-free-pos .ensures)
 
 returns-2 : tie.Need-returns-2
-unfolding withFrame1
+unfolding withFrames
 returns-2 c =
     let own = c .before .before .before .before .before .before .before .before .args in
     fixed-stays (own .locked) (own .pose) (own .j) (c .before .before .before .before .before .before .if1 .taken) (c .before .before .before .before .before .if2 .left)
