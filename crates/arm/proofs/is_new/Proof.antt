@@ -4,7 +4,7 @@ use Prim.Native.Nat.{_-_, _≤_}
 use mathlib.Core.Path.{refl}
 use native.Mathlib.Omega.{arith}
 use borrow.Author.Needs.{needs}
-use Rattle.lists.proofs.Every.{Tested, tested-all, tested-more, tested-none}
+use Rattle.lists.proofs.Every.{Tested, tested-all, tested-more}
 use Rattle.arm.specs.HandedIn.{differs}
 use Rattle.arm.proofs.is_new.Statement.{statement}
 use Rattle.arm.proofs.is_new.Tie as tie
@@ -16,7 +16,7 @@ abbrev μ-loop : tie.MeasureT-loop
 μ-loop tag others new₀ i₀ new i = length others - i
 
 loop-holds : tie.Need-loop-holds Inv-loop μ-loop
-loop-holds c = (omega arith, tested-none _ _)
+loop-holds c = (omega arith, refl)
 
 mul-new : tie.Need-mul-new Inv-loop μ-loop
 mul-new c = search needs
