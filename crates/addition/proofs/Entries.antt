@@ -8,6 +8,7 @@ use borrow.Author.Tests.{le-leb}
 use lib.ListN.{length, getD, set, take, drop, length-map}
 use lib.Seq.{length-take-le}
 use lib.Ieee.{Float}
+use Rattle.floats.specs.Inner.{overlaid}
 use Rattle.floats.proofs.Parts.{copied-in}
 use Rattle.lists.proofs.Modified.{set-modify}
 use Rattle.lists.proofs.Lists.{filled-all}
@@ -16,7 +17,6 @@ use Rattle.refusal.specs.Counted.{Outcome, out, filled}
 use Rattle.refusal.specs.declared.Counted.{Counted}
 use Rattle.limits.specs.Limits.{linkLimit, dofLimit}
 use Rattle.refusal.specs.Refusal.{lowerOf}
-use Rattle.floats.specs.Floats.{overlaid}
 use Rattle.masks.specs.Masks.{dofsOf, dampingRow}
 use Rattle.masks.specs.Answers.{dampingRefusal, dampingAnswer}
 use Rattle.masks.proofs.Laws.{dofs-le}

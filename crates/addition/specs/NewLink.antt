@@ -7,7 +7,8 @@ use Rattle.lists.specs.Lists.{laid, modify, withPart}
 use Rattle.limits.specs.Limits.{linkLimit}
 use Rattle.floats.specs.Floats.{zero32}
 use Rattle.masks.specs.Masks.{dofsOf, dampingRow}
-use Rattle.planar.specs.Poses.{rotationOf, identityPose, origin}
+use Rattle.multibody_joint.specs.Joint.{newJoint}
+use Rattle.arm.specs.Setters.{unplaced, armWith}
 use Rattle.arm.specs.declared.Link.{Link}
 use Rattle.arm.specs.declared.Row.{Row}
 use Rattle.arm.specs.declared.RowName.the-variants.{Damping}
@@ -27,25 +28,7 @@ zeros = replicate 3 zero32
 
 -- the link; its pose and shifts are yet to be worked out
 unfoldable pub linkOf : NewLink → Link
-linkOf new = record {
-  tag = new .tag;
-  parent = new .parent;
-  joint = record {
-    locked = new .locked;
-    limit = new .limit;
-    motor = new .motor;
-    frame1 = new .frame1;
-    frame2 = new .frame2;
-    coordinates = zeros;
-    rotation = rotationOf identityPose;
-    stiffness = zeros;
-    rest = zeros;
-  };
-  centre = new .centre;
-  world = identityPose;
-  shift02 = origin;
-  shift23 = origin;
-}
+linkOf new = unplaced (new .tag) (new .parent) (newJoint (new .locked) (new .limit) (new .motor) (new .frame1) (new .frame2)) (new .centre)
 
 -- the first n of the values stand in the row from `start` on
 unfoldable pub entriesSet : ℕ → ℕ → List Float → Row → Row
@@ -63,10 +46,6 @@ rowsWith a mask = rowsFrom (dofCountOf a) mask (a .rows)
 
 -- the arm with the link behind its last, and nothing worked out
 unfoldable pub addedInputs : Arm → NewLink → Arm
-addedInputs a new = record {
-  «link_count» = a .«link_count» + 1;
-  «coupling_count» = a .«coupling_count»;
-  links = set (a .links) (a .«link_count») (linkOf new);
-  couplings = a .couplings;
-  rows = rowsWith a (new .locked);
-}
+addedInputs a new =
+    let n = a .«link_count» in
+    armWith a (n + 1) (a .«coupling_count») (set (a .links) n (linkOf new)) (a .couplings) (rowsWith a (new .locked))

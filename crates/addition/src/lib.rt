@@ -17,11 +17,13 @@ use arm::HandedIn;
 use arm::Link;
 use arm::Row;
 use arm::RowName;
+use arm::arm_with;
 use arm::handed_in;
 use arm::is_new;
 use arm::live_links;
 use arm::row_number;
 use arm::start_among;
+use arm::unplaced_link;
 use floats::copy;
 use kinematics::refresh_one;
 use limits::LINKS;
@@ -29,10 +31,9 @@ use limits::fewer;
 use masks::default_damping;
 use masks::dofs;
 use masks::is_mask;
-use multibody_joint::Joint;
+use multibody_joint::new_joint;
 use planar::Point;
 use planar::Pose;
-use planar::identity;
 use planar::is_finite_point;
 use planar::is_finite_pose;
 use planar::is_turn;
@@ -124,31 +125,14 @@ fn link_of(new: NewLink) -> Link
     requires { ⌜ Small new ⌝ }
     ensures { λ l. ⌜ l ≡ linkOf new ⌝ }
 {
-    let none = [0.0f32; 3];
-    let frame1 = new.frame1;
-    let frame2 = new.frame2;
-    let centre = new.centre;
-    let joint = Joint {
-        locked: new.locked as u8,
-        limit: new.limit as u8,
-        motor: new.motor as u8,
-        frame1,
-        frame2,
-        coordinates: none,
-        rotation: rotation_of(identity()),
-        stiffness: none,
-        rest: none,
-    };
-    let origin = Point { x: 0.0, y: 0.0 };
-    Link {
-        tag: new.tag,
-        parent: new.parent as u8,
-        joint,
-        centre,
-        world: identity(),
-        shift02: origin,
-        shift23: origin,
-    }
+    let joint = new_joint(
+        new.locked as u8,
+        new.limit as u8,
+        new.motor as u8,
+        new.frame1,
+        new.frame2,
+    );
+    unplaced_link(new.tag, new.parent as u8, joint, new.centre)
 }
 
 // ---- Its row entries
@@ -221,13 +205,7 @@ pub fn add_link(arm: Arm, tables: &mut [f32], new: NewLink) -> Edited
     let couplings = arm.couplings;
     let given = arm.rows;
     let rows = with_new_entries(given, start, new.locked as u8);
-    let added = Arm {
-        link_count: n + 1,
-        coupling_count: arm.coupling_count,
-        links,
-        couplings,
-        rows,
-    };
+    let added = arm_with(arm, n + 1, arm.coupling_count, links, couplings, rows);
     Edited {
         refusal: 0,
         arm: added,

@@ -8,7 +8,6 @@ use lib.ListN.{length}
 use lib.Ieee.{Float}
 use Rattle.arm.proofs.Accepted.{accepted}
 use Rattle.arm.specs.Empty.{emptyArm}
-use Rattle.lists.specs.Tests.{every}
 use Rattle.lists.specs.Numbers.{allBelow}
 use Rattle.limits.specs.Limits.{tableSize}
 use Rattle.refusal.specs.Refusal.{lowerOf}

@@ -19,6 +19,7 @@ use arm::arm_refusal;
 use arm::dof_among;
 use arm::handed_in;
 use arm::mask_among;
+use arm::with_joint;
 use floats::finite;
 use limits::COUPLINGS;
 use masks::is_axis;
@@ -106,10 +107,7 @@ fn spring_refusal(arm: Arm, link: u32, axis: u32, spring: Spring) -> u8
 fn with_spring(l: Link, axis: u8, spring: Spring) -> Link
     ensures { λ r. ⌜ r ≡ linkSpringSet axis spring l ⌝ }
 {
-    let joint = multibody_joint::set_spring(l.joint, axis, spring);
-    let mut new = l;
-    new.joint = joint;
-    new
+    with_joint(l, multibody_joint::set_spring(l.joint, axis, spring))
 }
 
 // Sets the spring of an axis of a link's joint, locked or not.

@@ -9,7 +9,7 @@ use native.Mathlib.Omega.{arith}
 use lib.ListN.{length, take, drop, getD, set, length-drop, take-append-drop, List·getD-append}
 use lib.Seq.{drop-drop, length-take-le, take-all, getD-take, getD-drop, paste, paste-suc, length-paste-head}
 use lib.Ieee.{Float, nan}
-use Rattle.floats.specs.Floats.{overlaid}
+use Rattle.floats.specs.Inner.{overlaid}
 use Rattle.floats.proofs.Rows.{overlaid-whole}
 use Rattle.elimination.specs.Elimination.{row, withRow, swapped}
 

@@ -8,9 +8,10 @@ use native.Mathlib.Omega.{arith}
 use lib.ListN.{length, take, drop, replicate, length-replicate, length-append, length-drop}
 use lib.Seq.{take-at, length-take-le}
 use lib.Ieee.{Float}
+use Rattle.floats.specs.Inner.{overlaid}
 use Rattle.limits.specs.Limits.{dofLimit}
 use Rattle.refusal.specs.Refusal.{unlessOf}
-use Rattle.floats.specs.Floats.{zero32, allFinite, overlaid}
+use Rattle.floats.specs.Floats.{zero32, allFinite}
 use Rattle.elimination.proofs.Room.{front-length}
 use Rattle.solve.specs.Solve.{Answer, answer, solution, solveOf}
 use Rattle.unit_multibody_joint.specs.Outcome.{Outcome, out, orThen}

@@ -4,7 +4,6 @@ use Prim.Native.Nat.{ℕ}
 use mathlib.Core.Path.{_≡_, refl}
 use mathlib.Core.List.{List}
 use lib.Ieee.{Float, ofBits}
-use Rattle.lists.specs.Lists.{laid}
 use Rattle.refusal.specs.Refusal.{Lowest}
 use Rattle.refusal.proofs.Laws.{is-lowest}
 use Rattle.elimination.specs.Elimination.{columns}

@@ -1,18 +1,18 @@
 -- A part that is copied: it was lent, overlaid, and came back. And what a copy and a move do where the parts fit. By arithmetic on the lengths.
-use mathlib.Core.Path.{_≡_, refl, sym, ap, _∙_}
+use mathlib.Core.Path.{_≡_, sym, ap, _∙_}
 use mathlib.Core.Bool.{Bool, true, false, cond, _&&_}
 use Prim.Native.Nat.{ℕ, _+_, _-_, _≤_}
-use mathlib.Core.List.{List, _++_}
+use mathlib.Core.List.{List, _++_, append-nil}
 use native.Mathlib.Omega.{arith}
 use native.Mathlib.Decide.{decLt}
 use borrow.Author.Tests.{le-leb, lt-leb, leb-true}
 use lib.Dec.{leb}
-use lib.ListN.{length, take, drop, length-drop}
-use lib.Seq.{length-take-le, drop-drop}
+use lib.ListN.{length, take, drop, length-drop, drop-of-length-le}
+use lib.Seq.{length-take-le, drop-drop, take-all}
 use lib.Ieee.{Float}
+use Rattle.floats.specs.Inner.{overlaid, copiedPart, movedPart}
 use Rattle.lists.specs.Lists.{part, withPart}
 use Rattle.lists.proofs.Bools.{both-hold}
-use Rattle.floats.specs.Floats.{overlaid, copiedPart, movedPart}
 use Rattle.floats.proofs.Rows.{overlaid-whole}
 
 -- into a list: the part was lent, overlaid, and came back as z
@@ -55,3 +55,12 @@ copied-fits at start n d s h g = rw (le-leb (at + n) (length d) h, le-leb (start
 pub moved-fits : (from to n : ℕ) (s : List Float) → from + n ≤ to → to + n ≤ length s → movedPart from to n s ≡ withPart to n (part from n s) s
 unfolding movedPart
 moved-fits from to n s h g = rw (le-leb (from + n) to h, le-leb (to + n) (length s) g)
+
+-- all of a list goes into the part, or all of a list is the part
+pub copied-whole : (at n : ℕ) (d s : List Float) → at + n ≤ length d → length s ≡ n → copiedPart at 0 n d s ≡ withPart at n s d
+copied-whole at n d s h e =
+    copied-fits at 0 n d s h (omega arith) ∙ ap (λ (b : List Float). withPart at n b d) (take-all n s (omega arith))
+
+pub copied-over : (start n : ℕ) (d s : List Float) → length d ≡ n → start + n ≤ length s → copiedPart 0 start n d s ≡ part start n s
+copied-over start n d s e h =
+    copied-fits 0 start n d s (omega arith) h ∙ rw (drop-of-length-le d {i = 0 + n} (omega arith)) (append-nil (part start n s))

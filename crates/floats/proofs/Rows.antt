@@ -7,7 +7,8 @@ use native.Mathlib.Omega.{arith}
 use lib.ListN.{length, take, drop, getD, set}
 use lib.Seq.{take-all}
 use lib.Ieee.{Float}
-use Rattle.floats.specs.Floats.{zipTo, second, overlaid}
+use Rattle.floats.specs.Inner.{second, overlaid}
+use Rattle.floats.specs.Floats.{zipTo}
 
 -- the first i entries are done
 abbrev pub zipped : (Float → Float → Float) → ℕ → List Float → List Float → List Float

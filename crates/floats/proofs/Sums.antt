@@ -1,7 +1,6 @@
 -- A loop that sums products: those left, on the sum so far, are the whole. Assumes nothing.
 use Prim.Native.Nat.{ℕ, min, _+_, _≤_, _<_}
 use mathlib.Core.Path.{_≡_, refl}
-use mathlib.Core.Logic.{inl, inr}
 use mathlib.Core.List.{List, [], _∷_}
 use native.Mathlib.Numerals.{add-one}
 use native.Mathlib.Omega.{arith}

@@ -1,11 +1,9 @@
 -- Floats, one and in a row. Each operation is that of f32, rounded once.
-use Prim.Native.Nat.{ℕ, _+_}
-use mathlib.Core.Bool.{Bool, true, false, cond, _&&_}
+use Prim.Native.Nat.{ℕ}
+use mathlib.Core.Bool.{Bool, true, false}
 use mathlib.Core.List.{List, [], _∷_}
-use lib.Dec.{leb}
-use lib.ListN.{length, getD}
+use lib.ListN.{getD}
 use lib.Ieee.{Float, nan, inf, fin, binary32, ofBits, add, sub, mul, div}
-use Rattle.lists.specs.Lists.{part, withPart}
 use Rattle.lists.specs.Tests.{every}
 
 -- the f32 of these bits
@@ -48,21 +46,6 @@ abbrev pub zipTo : (Float → Float → Float) → List Float → List Float →
 zipTo f [] ys = []
 zipTo f (x ∷ xs) [] = x ∷ xs
 zipTo f (x ∷ xs) (y ∷ ys) = f x y ∷ zipTo f xs ys
-
-abbrev pub second : Float → Float → Float
-second x y = y
-
--- s laid over the front of d
-abbrev pub overlaid : List Float → List Float → List Float
-overlaid d s = zipTo second d s
-
--- the n floats from `start` of s for those from `at` of d; where either list is too short, d stays
-unfoldable pub copiedPart : ℕ → ℕ → ℕ → List Float → List Float → List Float
-copiedPart at start n d s = cond (leb (at + n) (length d) && leb (start + n) (length s)) (withPart at n (part start n s) d) d
-
--- the n floats from `from` of a list copied further back in it; where they would overlap or not fit, the list stays
-unfoldable pub movedPart : ℕ → ℕ → ℕ → List Float → List Float
-movedPart from to n s = cond (leb (from + n) to && leb (to + n) (length s)) (withPart to n (part from n s) s) s
 
 -- the products of two rows, added to v one after the other
 abbrev pub sumFrom : Float → List Float → List Float → Float

@@ -3,8 +3,9 @@ ghost use mathlib.Core.Path.{_≡_};
 ghost use Prim.Native.Nat.{_+_, _≤_};
 ghost use lib.Dec.{leb};
 ghost use lib.ListN.{length};
+ghost use Rattle.floats.specs.Inner.{overlaid, copiedPart, movedPart};
 ghost use Rattle.lists.specs.Lists.{part, withPart};
-ghost use Rattle.floats.specs.Floats.{isFinite, allFinite, entryOf, overlaid, copiedPart, movedPart, dot};
+ghost use Rattle.floats.specs.Floats.{isFinite, allFinite, entryOf, dot};
 use limits::fewer;
 
 // Is x neither an infinity nor a NaN? Of these alone x less x is a NaN, and no zero.

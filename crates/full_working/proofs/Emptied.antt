@@ -5,10 +5,11 @@ use mathlib.Core.List.{List}
 use lib.ListN.{length, replicate, length-replicate}
 use lib.Ieee.{Float}
 use borrow.Author.Tests.{leb-true}
+use Rattle.floats.specs.Inner.{overlaid}
 use Rattle.arm.specs.Empty.{emptyArm}
 use Rattle.floats.proofs.Rows.{overlaid-front}
 use Rattle.limits.specs.Limits.{tableSize}
-use Rattle.floats.specs.Floats.{zero32, overlaid}
+use Rattle.floats.specs.Floats.{zero32}
 use Rattle.arm.specs.declared.Arm.{Arm}
 use Rattle.full_working.specs.Outcome.{says, tablesFit}
 use Rattle.full_working.specs.Empty.{emptied}

@@ -1,26 +1,17 @@
 // The working of an arm over its lent tables: what every call that works an arm out ends in, the full working, and the empty arm.
 ghost use mathlib.Core.Path.{_≡_};
-ghost use Rattle.arm.specs.Empty.{blankLink, emptyArm};
 ghost use Rattle.full_working.specs.Outcome.{out, tablesFit, workedBy, workedAll};
 ghost use Rattle.full_working.specs.Full.{fullRefusal, fullWorking};
-ghost use Rattle.planar.specs.Poses.{origin};
 ghost use Rattle.full_working.specs.Empty.{emptied};
 use arm::Arm;
-use arm::Coupling;
 use arm::Edited;
-use arm::Link;
-use arm::Row;
 use arm::arm_refusal;
+use arm::empty_arm;
+use arm::with_links;
 use floats::copy;
 use kinematics::Refreshed;
 use kinematics::refresh_all;
-use limits::COUPLINGS;
-use limits::DOFS;
-use limits::LINKS;
 use limits::TABLES;
-use multibody_joint::fixed;
-use planar::Point;
-use planar::identity;
 use refusal::lower;
 use refusal::unless;
 
@@ -32,9 +23,10 @@ fn worked(old: Arm, new: Arm, r: Refreshed) -> Edited
 {
     if r.fine {
         let links = r.links;
-        let mut arm = new;
-        arm.links = links;
-        return Edited { refusal: 0, arm };
+        return Edited {
+            refusal: 0,
+            arm: with_links(new, links),
+        };
     }
     Edited {
         refusal: 12,
@@ -78,54 +70,6 @@ pub fn full_working(arm: Arm, tables: &mut [f32]) -> Edited
 }
 
 // ---- The empty arm
-
-fn zero_point() -> Point
-    ensures { λ p. ⌜ p ≡ origin ⌝ }
-{
-    Point { x: 0.0, y: 0.0 }
-}
-
-// What stands in an unused place.
-fn blank_link() -> Link
-    ensures { λ l. ⌜ l ≡ blankLink ⌝ }
-{
-    Link {
-        tag: 0,
-        parent: 0,
-        joint: fixed(identity()),
-        centre: zero_point(),
-        world: identity(),
-        shift02: zero_point(),
-        shift23: zero_point(),
-    }
-}
-
-fn empty_arm() -> Arm
-    ensures { λ a. ⌜ a ≡ emptyArm ⌝ }
-{
-    let link = blank_link();
-    let coupling = Coupling {
-        link1: 0,
-        axis1: 0,
-        link2: 0,
-        axis2: 0,
-        coefficient: 0.0,
-        offset: 0.0,
-    };
-    let row = Row {
-        entries: [0.0f32; DOFS],
-    };
-    let links = [link; LINKS];
-    let couplings = [coupling; COUPLINGS];
-    let rows = [row; 5];
-    Arm {
-        link_count: 0,
-        coupling_count: 0,
-        links,
-        couplings,
-        rows,
-    }
-}
 
 // An arm of no links; its tables hold +0.
 pub fn empty(tables: &mut [f32]) -> Edited

@@ -7,9 +7,10 @@ use native.Mathlib.Omega.{arith}
 use borrow.Author.Tests.{lt-leb, le-leb}
 use lib.ListN.{length, drop, replicate, length-replicate, getD-replicate, length-append}
 use lib.Ieee.{Float}
+use Rattle.floats.specs.Inner.{overlaid}
 use Rattle.floats.proofs.Rows.{overlaid-front}
 use Rattle.limits.specs.Limits.{linkLimit, blockSize, tableSize}
-use Rattle.floats.specs.Floats.{zero32, overlaid}
+use Rattle.floats.specs.Floats.{zero32}
 use Rattle.arm.specs.declared.Link.{Link}
 use Rattle.kinematics.specs.declared.Refreshed.{Refreshed}
 use Rattle.kinematics.specs.Blocks.{blockAt}

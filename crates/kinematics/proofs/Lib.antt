@@ -1,6 +1,4 @@
-pub mod Small
 pub mod Pass
-pub mod Blocks
 pub mod Shift
 pub mod Laid
 pub mod Store

@@ -2,8 +2,9 @@
 use Prim.Native.Nat.{ℕ, _+_, _*_}
 use mathlib.Core.Bool.{Bool, cond}
 use mathlib.Core.List.{List, _++_}
-use lib.ListN.{take, drop, getD, set, replicate}
+use lib.ListN.{getD, set, replicate}
 use lib.Ieee.{Float, nan, neg}
+use Rattle.lists.specs.Lists.{part, withPart}
 use Rattle.limits.specs.Limits.{dofLimit, blockSize}
 use Rattle.floats.specs.Floats.{zero32, one32, plus, times, zipTo}
 use Rattle.masks.specs.Masks.{isFree, dofsBelow}

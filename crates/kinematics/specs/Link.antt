@@ -11,6 +11,7 @@ use Rattle.planar.specs.Poses.{rotationOf, translationOf, rotationProduct, plac
 use Rattle.multibody_joint.specs.declared.Joint.{Joint}
 use Rattle.multibody_joint.specs.Joint.{bodyToParent}
 use Rattle.arm.specs.declared.Link.{Link}
+use Rattle.arm.specs.Setters.{withPlace}
 use Rattle.kinematics.specs.declared.Posed.{Posed}
 use Rattle.kinematics.specs.Blocks.{zeroBlock, shifted, ownAdded}
 
@@ -95,18 +96,6 @@ unfoldable pub finiteKept : Kept → Bool
 finiteKept k = finitePlace (k .world) (k .shift02) (k .shift23) && allFinite (k .block)
 
 -- ---- in its link
-
--- the link with another world pose and other shifts
-unfoldable pub withPlace : Link → Pose → Point → Point → Link
-withPlace l world shift02 shift23 = record {
-  tag = l .tag;
-  parent = l .parent;
-  joint = l .joint;
-  centre = l .centre;
-  world = world;
-  shift02 = shift02;
-  shift23 = shift23;
-}
 
 abbrev pub withKept : Link → Kept → Link
 withKept l k = withPlace l (k .world) (k .shift02) (k .shift23)

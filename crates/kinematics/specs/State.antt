@@ -2,18 +2,16 @@
 use mathlib.Core.Path.{_≡_}
 use Prim.Native.Nat.{ℕ, zero, suc}
 use mathlib.Core.Bool.{Bool, true, false, cond}
-use mathlib.Core.List.{List, [], _++_, map}
+use mathlib.Core.List.{List, _++_, map}
 use lib.Dec.{eqb}
 use lib.ListN.{getD, set, drop, replicate}
-use lib.Ieee.{Float, nan}
+use lib.Ieee.{Float}
 use Rattle.lists.specs.Numbers.{allBelow}
 use Rattle.limits.specs.Limits.{tableSize}
 use Rattle.floats.specs.Floats.{zero32}
 use Rattle.masks.specs.Starts.{startOf}
-use Rattle.planar.specs.declared.Pose.{Pose}
-use Rattle.planar.specs.declared.Point.{Point}
-use Rattle.multibody_joint.specs.declared.Joint.{Joint}
 use Rattle.arm.specs.declared.Link.{Link}
+use Rattle.arm.specs.Arm.{linkAt, lockedOf}
 use Rattle.kinematics.specs.Blocks.{blockAt, withBlock}
 use Rattle.kinematics.specs.Link.{Kept, Inputs, rootKept, laterKept, finiteKept, withKept}
 use Rattle.kinematics.specs.Pass.{Ops, newAt, run}

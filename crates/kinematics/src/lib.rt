@@ -5,16 +5,17 @@ ghost use mathlib.Core.Bool.{cond};
 ghost use Prim.Native.Nat.{_+_, _*_, _≤_, _<_};
 ghost use lib.Dec.{ltb};
 ghost use lib.ListN.{length};
-ghost use Rattle.arm.specs.Setters.{withPlace};
-ghost use Rattle.lists.specs.Lists.{part, withPart};
 ghost use Rattle.limits.specs.Limits.{linkLimit, dofLimit, blockSize, tableSize};
 ghost use Rattle.kinematics.specs.Blocks.{blockAt, withBlock, zeroBlock, shifted, columnAdded, axisAdded, ownAdded, copiedFrom};
 ghost use Rattle.kinematics.specs.Link.{rootPosed, laterPosed, posedOf, blockFrom, finitePlace, TurnedTo};
 ghost use Rattle.kinematics.specs.State.{marked, blocksOf, WorkedOut, blocksLaid};
 ghost use Rattle.kinematics.specs.Answers.{out, refreshMarked, oneFits, turnedOut, refreshOne, refreshAll};
 use arm::Link;
+use arm::with_place;
 use floats::all_finite;
 use floats::copy;
+use floats::copy_part;
+use floats::move_part;
 use limits::BLOCK;
 use limits::DOFS;
 use limits::LINKS;
@@ -149,17 +150,6 @@ fn work_block(block: &mut [f32], p: Posed, locked: u8, start: usize)
     shift_block(block, p.shift23);
 }
 
-fn with_place(l: Link, world: Pose, shift02: Point, shift23: Point) -> Link
-    ensures { λ r. ⌜ r ≡ withPlace l world shift02 shift23 ⌝ }
-{
-    Link {
-        world,
-        shift02,
-        shift23,
-        ..l
-    }
-}
-
 fn is_finite_place(world: Pose, shift02: Point, shift23: Point) -> bool
     ensures { λ r. ⌜ r ≡ finitePlace world shift02 shift23 ⌝ }
 {
@@ -186,18 +176,6 @@ fn refresh_link(l: Link, above: Link, later: bool, start: usize, block: &mut [f3
 
 // ---- The pass
 
-// A block goes further back in the same list.
-fn move_block(work: &mut [f32], from: usize, to: usize)
-    requires { ⌜ (from + blockSize ≤ to) × (to + blockSize ≤ length (now work)) ⌝ }
-    ensures { λ _. ⌜ now (work .exit) ≡ withPart to blockSize (part from blockSize (now (work .entry))) (now (work .entry)) ⌝ }
-{
-    let mut i: usize = 0;
-    while i < BLOCK {
-        work[to + i] = work[from + i];
-        i += 1;
-    }
-}
-
 // Link j's place in the work area takes the block that the link copies: that of its parent p, which was just worked out there if p is marked, and else
 // is kept in the tables. A root copies zeros.
 fn copy_parent(work: &mut [f32], tables: &[f32], p: usize, j: usize, fresh: bool)
@@ -205,19 +183,17 @@ fn copy_parent(work: &mut [f32], tables: &[f32], p: usize, j: usize, fresh: bool
     ensures { λ _. ⌜ now (work .exit) ≡ withBlock j (copiedFrom (ltb p j) fresh (p * blockSize) (now (tables .entry)) (now (work .entry))) (now (work .entry)) ⌝ }
 {
     let to = j * BLOCK;
-    let end = to + BLOCK;
     if p < j {
         let from = p * BLOCK;
-        let from_end = from + BLOCK;
         if fresh {
-            move_block(work, from, to);
+            move_part(work, from, to, BLOCK);
             return;
         }
-        copy(&mut work[to..end], &tables[from..from_end]);
+        copy_part(work, to, tables, from, BLOCK);
         return;
     }
     let zeros = [0.0f32; BLOCK];
-    copy(&mut work[to..end], &zeros);
+    copy_part(work, to, &zeros, 0, BLOCK);
 }
 
 // The links that a pass leaves, and whether every result that it worked out is finite.
@@ -262,15 +238,6 @@ fn work_out(
     Refreshed { fine, links }
 }
 
-// The block at `at` goes from one list to the other.
-fn copy_block(to: &mut [f32], from: &[f32], at: usize)
-    requires { ⌜ (at + blockSize ≤ length (now to)) × (at + blockSize ≤ length (now from)) ⌝ }
-    ensures { λ _. ⌜ now (to .exit) ≡ withPart at blockSize (part at blockSize (now (from .entry))) (now (to .entry)) ⌝ }
-{
-    let end = at + BLOCK;
-    copy(&mut to[at..end], &from[at..end]);
-}
-
 // The blocks of the first n links that are marked go from `work` into the tables.
 fn commit(marks: [bool; LINKS], n: usize, work: &[f32], tables: &mut [f32])
     requires { ⌜ n ≤ linkLimit ⌝ }
@@ -281,7 +248,8 @@ fn commit(marks: [bool; LINKS], n: usize, work: &[f32], tables: &mut [f32])
     let mut j: usize = 0;
     while j < n {
         if marks[j] {
-            copy_block(tables, work, j * BLOCK);
+            let at = j * BLOCK;
+            copy_part(tables, at, work, at, BLOCK);
         }
         j += 1;
     }
@@ -316,20 +284,8 @@ fn copy_kept(block: &mut [f32], tables: &[f32], p: usize, later: bool)
     ensures { λ _. ⌜ now (block .exit) ≡ cond later (blockAt p (now (tables .entry))) zeroBlock ⌝ }
 {
     if later {
-        let from = p * BLOCK;
-        let end = from + BLOCK;
-        copy(block, &tables[from..end]);
+        copy_part(block, 0, tables, p * BLOCK, BLOCK);
     }
-}
-
-// Link j's block goes into the tables.
-fn put_block(tables: &mut [f32], block: &[f32], j: usize)
-    requires { ⌜ (length (now block) ≡ blockSize) × (j < linkLimit) × (tableSize ≤ length (now tables)) ⌝ }
-    ensures { λ _. ⌜ now (tables .exit) ≡ withBlock j (now (block .entry)) (now (tables .entry)) ⌝ }
-{
-    let at = j * BLOCK;
-    let end = at + BLOCK;
-    copy(&mut tables[at..end], block);
 }
 
 // Are there tables, a place for link j, and three columns from `start` on?
@@ -350,7 +306,7 @@ pub fn refresh_one(l: Link, above: Link, start: usize, j: usize, tables: &mut [f
         copy_kept(&mut block, tables, p, p < j);
         let t = refresh_link(l, above, p < j, start, &mut block);
         if t.fine {
-            put_block(tables, &block, j);
+            copy_part(tables, j * BLOCK, &block, 0, BLOCK);
             return t;
         }
     }

@@ -1,7 +1,6 @@
 -- The marked examples hold of the definitions: both columns compute to the same numbers.
 use mathlib.Core.Path.{refl}
 use lib.Ieee.{ofBits, toBits, add, sub, mul, lt}
-use Rattle.lists.specs.Lists.{laid}
 use Rattle.refusal.specs.Counted.{filled, countedOf, filled}
 use Rattle.lists.specs.Numbers.{allBelow, countBelow, lastThat}
 use Rattle.refusal.specs.Refusal.{lowerOf}

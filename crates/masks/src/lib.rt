@@ -4,7 +4,7 @@ ghost use mathlib.Core.Path.{_≡_};
 ghost use Prim.Native.Nat.{_≤_};
 ghost use lib.ListN.{length};
 ghost use Rattle.lists.specs.Lists.{laid};
-ghost use Rattle.refusal.specs.Counted.{out, countedOf};
+ghost use Rattle.refusal.specs.Counted.{out};
 ghost use Rattle.limits.specs.Limits.{linkLimit};
 ghost use Rattle.masks.specs.Masks.{isMask, isAxis, bitOf, one, isFree, dofsBelow, dofsOf, constraintsAt, dampingOf, dampingRow};
 ghost use Rattle.masks.specs.Starts.{allMasks, startsOf, totalOf};

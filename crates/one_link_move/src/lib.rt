@@ -18,6 +18,8 @@ use arm::handed_in;
 use arm::live_links;
 use arm::mask_among;
 use arm::start_among;
+use arm::with_inputs;
+use arm::with_joint;
 use arm::with_links;
 use floats::finite;
 use kinematics::refresh_marked;
@@ -27,6 +29,7 @@ use limits::fewer;
 use masks::is_axis;
 use masks::is_free;
 use multibody_joint::Joint;
+use multibody_joint::with_frames;
 use planar::Point;
 use planar::Pose;
 use planar::is_beyond;
@@ -161,23 +164,10 @@ fn with_coordinate(j: Joint, axis: u32, value: f32) -> Joint
 fn with_change(l: Link, change: Change) -> Link
     ensures { λ r. ⌜ r ≡ changed change l ⌝ }
 {
-    let mut m = l;
-    let mut joint = l.joint;
     match change {
-        Change::Coordinate { axis, value } => {
-            m.joint = with_coordinate(joint, axis, value);
-            m
-        }
-        Change::Frames { first, second } => {
-            joint.frame1 = first;
-            joint.frame2 = second;
-            m.joint = joint;
-            m
-        }
-        Change::Centre(centre) => {
-            m.centre = centre;
-            m
-        }
+        Change::Coordinate { axis, value } => with_joint(l, with_coordinate(l.joint, axis, value)),
+        Change::Frames { first, second } => with_joint(l, with_frames(l.joint, first, second)),
+        Change::Centre(centre) => with_inputs(l, l.parent, l.joint, centre),
     }
 }
 

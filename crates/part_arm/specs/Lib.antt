@@ -1,4 +1,3 @@
-pub mod Gathered
 pub mod Places
 pub mod Part
 pub mod Coded

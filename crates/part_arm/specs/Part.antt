@@ -2,14 +2,13 @@
 use Prim.Native.Nat.{ℕ, min}
 use mathlib.Core.Bool.{Bool, cond, _&&_}
 use mathlib.Core.List.{List, [], map}
-use lib.ListN.{length, take, drop, getD}
-use lib.Ieee.{Float, nan}
+use lib.ListN.{length, take, drop}
+use lib.Ieee.{Float}
 use Rattle.arm.specs.Empty.{blankRow, emptyArm}
 use Rattle.lists.specs.Lists.{laid}
 use Rattle.lists.specs.Numbers.{gathered, chosen}
 use Rattle.limits.specs.Limits.{couplingLimit}
 use Rattle.masks.specs.Masks.{dofsOf}
-use Rattle.multibody_joint.specs.declared.Joint.{Joint}
 use Rattle.multibody_joint.specs.Joint.{fixedJoint}
 use Rattle.arm.specs.declared.Link.{Link}
 use Rattle.arm.specs.declared.Coupling.{Coupling}
@@ -20,21 +19,9 @@ use Rattle.part_arm.specs.Places.{Places, goesOn}
 
 -- ---- links
 
--- the link with another parent and another joint
-abbrev pub rejoined : Link → ℕ → Joint → Link
-rejoined l parent joint = record {
-  tag = l .tag;
-  parent = parent;
-  joint = joint;
-  centre = l .centre;
-  world = l .world;
-  shift02 = l .shift02;
-  shift23 = l .shift23;
-}
-
 -- a head is a root, with a fixed joint at its kept world pose; any other keeps its joint, and its parent's number is the new one
 unfoldable pub newLink : Bool → ℕ → Link → Link
-newLink head parent l = cond head (rejoined l 0 (fixedJoint (l .world))) (rejoined l parent (l .joint))
+newLink head parent l = cond head (withInputs l 0 (fixedJoint (l .world)) (l .centre)) (withInputs l parent (l .joint) (l .centre))
 
 -- the survivors in the part, rising
 unfoldable pub partLinks : Places → Arm → List Link
@@ -56,13 +43,6 @@ unfoldable pub partRow : Places → Arm → Row → Row
 partRow p a row = record { entries = laid (partEntries p a (row .entries)) (blankRow .entries) }
 
 -- ---- couplings
-
--- what is read past the end of a list
-abbrev pub noCoupling : Coupling
-noCoupling = record { link1 = 0; axis1 = 0; link2 = 0; axis2 = 0; coefficient = nan; offset = nan }
-
-abbrev pub couplingAt : Arm → ℕ → Coupling
-couplingAt a i = getD (a .couplings) i noCoupling
 
 -- it stays if both links survive in the part and neither is a head
 unfoldable pub couplingStays : Places → Coupling → Bool
@@ -88,10 +68,7 @@ partCouplings p a =
 
 -- all that is past the counts is as in an empty arm; poses and shifts are worked out afterwards
 unfoldable pub partArm : Places → Arm → Arm
-partArm p a = record {
-  «link_count» = length (partLinks p a);
-  «coupling_count» = length (partCouplings p a);
-  links = laid (partLinks p a) (emptyArm .links);
-  couplings = laid (partCouplings p a) (emptyArm .couplings);
-  rows = map (partRow p a) (a .rows);
-}
+partArm p a =
+    let links = partLinks p a in
+    let couplings = partCouplings p a in
+    armWith a (length links) (length couplings) (laid links (emptyArm .links)) (laid couplings (emptyArm .couplings)) (map (partRow p a) (a .rows))

@@ -1,11 +1,7 @@
 // One part of a split as an arm: where its links go, and what of links, rows and couplings goes with them. Inner functions: they refuse nothing.
 ghost use mathlib.Core.Path.{_≡_};
 ghost use mathlib.Core.List.{map};
-ghost use Prim.Native.Nat.{min, _+_, _≤_};
-ghost use lib.ListN.{length};
-ghost use Rattle.arm.specs.Empty.{emptyArm};
-ghost use Rattle.lists.specs.Lists.{part, withPart};
-ghost use Rattle.limits.specs.Limits.{couplingLimit};
+ghost use Prim.Native.Nat.{_+_};
 ghost use Rattle.part_arm.specs.Places.{partIn, numberIn, hereIn, headIn, placesIn, goesOn};
 ghost use Rattle.part_arm.specs.Part.{newLink, couplingStays, newCoupling, partRow, partArm};
 ghost use Rattle.part_arm.specs.Coded.{linksOut, couplingsOut};
@@ -13,14 +9,17 @@ use arm::Arm;
 use arm::Coupling;
 use arm::Link;
 use arm::Row;
+use arm::arm_with;
+use arm::empty_arm;
 use arm::live_links;
-use floats::copy;
+use arm::with_inputs;
+use floats::copy_part;
 use limits::COUPLINGS;
 use limits::DOFS;
 use limits::LINKS;
+use limits::fewer;
 use masks::dofs;
 use multibody_joint::fixed;
-use full_working::empty;
 
 // Bytes of a split map: part and number of each link.
 pub const MAP: usize = 2 * LINKS;
@@ -68,31 +67,15 @@ fn goes_on(places: [u8; MAP], k: usize, j: usize) -> bool
     is_here(places, k, j) & !is_head(places, j)
 }
 
-// ---- Blank places
-
-// An arm of no links: it is lent nothing, so nothing is cleared.
-fn blank_arm() -> Arm
-    ensures { λ a. ⌜ a ≡ emptyArm ⌝ }
-{
-    let mut none = [0.0f32; 1];
-    let e = empty(&mut none);
-    e.arm
-}
-
 // ---- Links
 
 fn new_link(head: bool, parent: u8, l: Link) -> Link
     ensures { λ r. ⌜ r ≡ newLink head parent l ⌝ }
 {
     if head {
-        let joint = fixed(l.world);
-        return Link {
-            parent: 0,
-            joint,
-            ..l
-        };
+        return with_inputs(l, 0, fixed(l.world), l.centre);
     }
-    Link { parent, ..l }
+    with_inputs(l, parent, l.joint, l.centre)
 }
 
 struct LinksOut {
@@ -105,7 +88,7 @@ fn links_out(arm: Arm, places: [u8; MAP], k: usize) -> LinksOut
     ensures { λ r. ⌜ r ≡ linksOut (placesIn places k) arm ⌝ }
 {
     let n = live_links(arm.link_count);
-    let blank = blank_arm();
+    let blank = empty_arm();
     let mut links = blank.links;
     let mut count: usize = 0;
     let mut j = 0;
@@ -123,16 +106,6 @@ fn links_out(arm: Arm, places: [u8; MAP], k: usize) -> LinksOut
 
 // ---- Rows
 
-// d entries go from one row to the other.
-fn keep_entries(to: &mut [f32], at: usize, from: &[f32], start: usize, d: usize)
-    requires { ⌜ (at + d ≤ length (now to)) × (start + d ≤ length (now from)) ⌝ }
-    ensures { λ _. ⌜ now (to .exit) ≡ withPart at d (part start d (now (from .entry))) (now (to .entry)) ⌝ }
-{
-    let end = at + d;
-    let until = start + d;
-    copy(&mut to[at..end], &from[start..until]);
-}
-
 // The entries of the links that go on, in order.
 fn row_out(arm: Arm, places: [u8; MAP], k: usize, row: Row) -> Row
     ensures { λ r. ⌜ r ≡ partRow (placesIn places k) arm row ⌝ }
@@ -147,7 +120,7 @@ fn row_out(arm: Arm, places: [u8; MAP], k: usize, row: Row) -> Row
         let l = arm.links[j];
         let d = dofs(l.joint.locked);
         if goes_on(places, k, j) {
-            keep_entries(&mut entries, at, &old, start, d);
+            copy_part(&mut entries, at, &old, start, d);
             at += d;
         }
         start += d;
@@ -187,12 +160,6 @@ fn new_coupling(places: [u8; MAP], c: Coupling) -> Coupling
     }
 }
 
-fn live_couplings(count: usize) -> usize
-    ensures { λ r. ⌜ r ≡ min count couplingLimit ⌝ }
-{
-    if count < COUPLINGS { count } else { COUPLINGS }
-}
-
 struct CouplingsOut {
     count: usize,
     couplings: [Coupling; COUPLINGS],
@@ -202,8 +169,8 @@ struct CouplingsOut {
 fn couplings_out(arm: Arm, places: [u8; MAP], k: usize) -> CouplingsOut
     ensures { λ r. ⌜ r ≡ couplingsOut (placesIn places k) arm ⌝ }
 {
-    let n = live_couplings(arm.coupling_count);
-    let blank = blank_arm();
+    let n = fewer(arm.coupling_count, COUPLINGS);
+    let blank = empty_arm();
     let mut couplings = blank.couplings;
     let mut count: usize = 0;
     let mut i = 0;
@@ -228,11 +195,5 @@ pub fn part_arm(arm: Arm, places: [u8; MAP], k: usize) -> Arm
     let c = couplings_out(arm, places, k);
     let links = l.links;
     let couplings = c.couplings;
-    Arm {
-        link_count: l.count,
-        coupling_count: c.count,
-        links,
-        couplings,
-        rows: rows_out(arm, places, k),
-    }
+    arm_with(arm, l.count, c.count, links, couplings, rows_out(arm, places, k))
 }

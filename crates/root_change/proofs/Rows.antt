@@ -7,10 +7,11 @@ use borrow.Author.Tests.{eq-eqb, ne-eqb}
 use lib.ListN.{length, take, drop, getD, set, replicate, length-drop, length-map, length-replicate}
 use lib.Seq.{take-all}
 use lib.Ieee.{Float}
+use Rattle.floats.specs.Inner.{overlaid}
 use Rattle.floats.proofs.Rows.{overlaid-front}
 use Rattle.lists.proofs.Lists.{filled-more, filled-all, map-at}
 use Rattle.limits.specs.Limits.{dofLimit}
-use Rattle.floats.specs.Floats.{zero32, overlaid}
+use Rattle.floats.specs.Floats.{zero32}
 use Rattle.arm.specs.declared.Row.{Row}
 use Rattle.arm.specs.declared.Arm.{Arm}
 use Rattle.root_change.specs.Root.{widened, narrowed, rootRow, rootMask, rootRows}

@@ -13,10 +13,11 @@ use Rattle.floats.specs.Floats.{zero32}
 use Rattle.planar.specs.declared.Pose.{Pose}
 use Rattle.planar.specs.Poses.{rotationOf, isTurn, finitePose}
 use Rattle.multibody_joint.specs.declared.Joint.{Joint}
-use Rattle.multibody_joint.specs.Joint.{freeJoint, fixedJoint, freePosSet}
+use Rattle.multibody_joint.specs.Joint.{withFrames, freeJoint, fixedJoint, freePosSet}
 use Rattle.arm.specs.declared.Link.{Link}
 use Rattle.arm.specs.declared.Row.{Row}
 use Rattle.arm.specs.declared.Arm.{Arm}
+use Rattle.arm.specs.Setters.{withJoint, armWith}
 use Rattle.arm.specs.HandedIn.{armRefusal}
 use Rattle.full_working.specs.Outcome.{Outcome, unlessRefused, tablesFit, workedAll}
 
@@ -26,38 +27,16 @@ use Rattle.full_working.specs.Outcome.{Outcome, unlessRefused, tablesFit, worke
 abbrev pub isRootMask : ℕ → Bool
 isRootMask locked = eqb locked 7 || eqb locked 0
 
--- the joint with frame 1 at the pose
-unfoldable pub withFrame1 : Joint → Pose → Joint
-withFrame1 j p = record {
-  locked = j .locked;
-  limit = j .limit;
-  motor = j .motor;
-  frame1 = p;
-  frame2 = j .frame2;
-  coordinates = j .coordinates;
-  rotation = j .rotation;
-  stiffness = j .stiffness;
-  rest = j .rest;
-}
-
 -- the same type: a free joint's position is set, or a fixed one's frame 1; another: a free or a fixed joint comes in at the pose
 unfoldable pub rootJoint : ℕ → Pose → Joint → Joint
 rootJoint locked p j =
     cond (eqb (j .locked) locked)
-    (cond (eqb locked 0) (freePosSet j p) (withFrame1 j p))
+    (cond (eqb locked 0) (freePosSet j p) (withFrames j p (j .frame2)))
     (cond (eqb locked 0) (freeJoint p) (fixedJoint p))
 
 -- tag, parent and centre of mass stay
 unfoldable pub rootLink : ℕ → Pose → Link → Link
-rootLink locked p l = record {
-  tag = l .tag;
-  parent = l .parent;
-  joint = rootJoint locked p (l .joint);
-  centre = l .centre;
-  world = l .world;
-  shift02 = l .shift02;
-  shift23 = l .shift23;
-}
+rootLink locked p l = withJoint l (rootJoint locked p (l .joint))
 
 -- ---- a row
 
@@ -84,13 +63,7 @@ rootRows a locked = map (rootRow (rootMask a) locked) (a .rows)
 
 -- the arm with its root changed, and nothing worked out
 unfoldable pub rootChanged : Arm → ℕ → Pose → Arm
-rootChanged a locked p = record {
-  «link_count» = a .«link_count»;
-  «coupling_count» = a .«coupling_count»;
-  links = modify (rootLink locked p) 0 (a .links);
-  couplings = a .couplings;
-  rows = rootRows a locked;
-}
+rootChanged a locked p = armWith a (a .«link_count») (a .«coupling_count») (modify (rootLink locked p) 0 (a .links)) (a .couplings) (rootRows a locked)
 
 unfoldable pub rootRefusal : Arm → List Float → ℕ → Pose → ℕ
 rootRefusal a t locked p =

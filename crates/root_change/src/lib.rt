@@ -7,12 +7,15 @@ use arm::Edited;
 use arm::Link;
 use arm::Row;
 use arm::arm_refusal;
+use arm::arm_with;
+use arm::with_joint;
 use floats::copy;
 use limits::DOFS;
 use multibody_joint::Joint;
 use multibody_joint::fixed;
 use multibody_joint::free;
 use multibody_joint::set_free_pos;
+use multibody_joint::with_frames;
 use planar::Pose;
 use planar::is_finite_pose;
 use planar::is_turn;
@@ -32,7 +35,7 @@ fn root_joint(j: Joint, locked: u32, pose: Pose) -> Joint
         if locked == 0 {
             return set_free_pos(j, pose);
         }
-        return Joint { frame1: pose, ..j };
+        return with_frames(j, pose, j.frame2);
     }
     if locked == 0 {
         return free(pose);
@@ -43,8 +46,7 @@ fn root_joint(j: Joint, locked: u32, pose: Pose) -> Joint
 fn root_link(l: Link, locked: u32, pose: Pose) -> Link
     ensures { λ r. ⌜ r ≡ rootLink locked pose l ⌝ }
 {
-    let joint = root_joint(l.joint, locked, pose);
-    Link { joint, ..l }
+    with_joint(l, root_joint(l.joint, locked, pose))
 }
 
 // ---- Rows
@@ -108,7 +110,15 @@ fn root_changed(arm: Arm, locked: u32, pose: Pose) -> Arm
     let old = links[0];
     let root = root_link(old, locked, pose);
     links[0] = root;
-    Arm { links, rows, ..arm }
+    let couplings = arm.couplings;
+    arm_with(
+        arm,
+        arm.link_count,
+        arm.coupling_count,
+        links,
+        couplings,
+        rows,
+    )
 }
 
 fn root_refusal(arm: Arm, tables: &[f32], locked: u32, pose: Pose) -> u8

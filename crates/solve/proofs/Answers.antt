@@ -11,12 +11,13 @@ use lib.Dec.{leb}
 use lib.ListN.{length, take, drop, replicate, length-append, length-drop, length-replicate}
 use lib.Seq.{take-at, length-take-le, take-all}
 use lib.Ieee.{Float, binary32, ofBits}
+use Rattle.floats.specs.Inner.{overlaid}
 use Rattle.lists.proofs.Bools.{both-hold}
 use Rattle.limits.specs.Limits.{dofLimit}
 use Rattle.refusal.specs.Refusal.{lowest, lowerOf, unlessOf}
 use Rattle.refusal.proofs.Laws.{is-lowest}
 use Rattle.refusal.proofs.Tests.{holds}
-use Rattle.floats.specs.Floats.{allFinite, overlaid}
+use Rattle.floats.specs.Floats.{allFinite}
 use Rattle.floats.proofs.Rows.{overlaid-parts}
 use Rattle.elimination.specs.Elimination.{Factors, factors, factored, overFront, factoredIn}
 use Rattle.elimination.proofs.Rows.{square-mono}

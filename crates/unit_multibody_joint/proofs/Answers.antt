@@ -8,10 +8,11 @@ use native.Mathlib.Nat.{sub-zero}
 use lib.ListN.{length, take, getD, set, replicate, length-replicate, length-set}
 use lib.Seq.{take-set-lt, take-all, length-take-le, getD-take}
 use lib.Ieee.{Float, nan, ofBits}
+use Rattle.floats.specs.Inner.{overlaid}
 use Rattle.lists.specs.Lists.{laid}
 use Rattle.limits.specs.Limits.{dofLimit}
 use Rattle.refusal.specs.Refusal.{unlessOf}
-use Rattle.floats.specs.Floats.{zero32, one32, allFinite, overlaid}
+use Rattle.floats.specs.Floats.{zero32, one32, allFinite}
 use Rattle.floats.proofs.Rows.{overlaid-parts}
 use Rattle.floats.proofs.FiniteRows.{zeros-finite}
 use Rattle.solve.specs.Solve.{Answer, answer, solution, solveOf}

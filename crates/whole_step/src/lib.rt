@@ -12,6 +12,8 @@ use arm::arm_refusal;
 use arm::is_finite_joint;
 use arm::live_links;
 use arm::row_number;
+use arm::with_joint;
+use arm::with_links;
 use floats::finite;
 use limits::LINKS;
 use masks::dofs;
@@ -29,8 +31,7 @@ use full_working::work_all;
 fn step_link(l: Link, velocities: &[f32], dt: f32) -> Link
     ensures { λ r. ⌜ r ≡ linkIntegrated l (now (velocities .entry)) dt ⌝ }
 {
-    let joint = integrate(l.joint, velocities, dt);
-    Link { joint, ..l }
+    with_joint(l, integrate(l.joint, velocities, dt))
 }
 
 // Each joint is handed the velocities from its link's start onward.
@@ -57,8 +58,7 @@ fn step_arm(arm: Arm, dt: f32) -> Arm
 {
     let at = row_number(RowName::Velocities);
     let velocities = arm.rows[at];
-    let links = step_links(arm, velocities, dt);
-    Arm { links, ..arm }
+    with_links(arm, step_links(arm, velocities, dt))
 }
 
 // ---- The step

@@ -1,6 +1,5 @@
 -- `with_place`: the definition, field by field. Assumes nothing.
 use Rattle.arm.specs.Setters.{withPlace}
-use borrow.Author.Needs.{needs}
 use Rattle.arm.proofs.with_place.Statement.{statement}
 use Rattle.arm.proofs.with_place.Tie as tie
 

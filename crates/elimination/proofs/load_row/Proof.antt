@@ -1,11 +1,11 @@
 -- `load_row`: the part copied is the row, and it is as long as what it is copied over.
+use Rattle.floats.specs.Inner.{overlaid}
 use Rattle.elimination.proofs.Rows.{overlaid-part, part-length, part-row}
 use Rattle.elimination.specs.Elimination.{row}
 use lib.ListN.{length}
 use Prim.Native.Nat.{_*_}
 use mathlib.Core.Path.{_∙_, _≡_, ap, refl}
 use borrow.Author.Needs.{needs}
-use Rattle.floats.specs.Floats.{overlaid}
 use Rattle.elimination.proofs.load_row.Statement.{statement}
 use Rattle.elimination.proofs.load_row.Tie as tie
 

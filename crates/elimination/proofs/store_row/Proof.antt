@@ -1,4 +1,5 @@
 -- `store_row`: what comes back of the part is the row that was copied, since both are as long.
+use Rattle.floats.specs.Inner.{overlaid}
 use Rattle.elimination.proofs.Rows.{overlaid-part, part-length, part-row, put-back}
 use Rattle.elimination.specs.Elimination.{row, withRow}
 use lib.Ieee.{Float}
@@ -7,7 +8,6 @@ use Prim.Native.Nat.{_*_}
 use mathlib.Core.List.{List}
 use mathlib.Core.Path.{_∙_, _≡_, ap, refl}
 use borrow.Author.Needs.{needs}
-use Rattle.floats.specs.Floats.{overlaid}
 use Rattle.elimination.proofs.store_row.Statement.{statement}
 use Rattle.elimination.proofs.store_row.Tie as tie
 

@@ -1,6 +1,6 @@
 -- `copy`: the first i entries are laid over, the rest is as it was; at the shorter length all are. Assumes nothing.
+use Rattle.floats.specs.Inner.{second}
 use Rattle.floats.proofs.Rows.{zipped, zipped-all, zipped-more}
-use Rattle.floats.specs.Floats.{second}
 use lib.Ieee.{nan}
 use lib.ListN.{length, length-set}
 use Prim.Native.Nat.{min, _-_, _≤_}

@@ -2,7 +2,7 @@
 use mathlib.Core.Path.{_∙_, sym}
 use lib.ListN.{length}
 use borrow.Author.Needs.{needs}
-use Rattle.floats.specs.Floats.{copiedPart}
+use Rattle.floats.specs.Inner.{copiedPart}
 use Rattle.floats.proofs.Parts.{both-fit, not-fit, copied-fits}
 use Rattle.floats.proofs.copy_part.Statement.{statement}
 use Rattle.floats.proofs.copy_part.Tie as tie

@@ -2,7 +2,7 @@
 use mathlib.Core.Path.{_∙_, sym}
 use lib.ListN.{length}
 use borrow.Author.Needs.{needs}
-use Rattle.floats.specs.Floats.{movedPart}
+use Rattle.floats.specs.Inner.{movedPart}
 use Rattle.floats.proofs.Parts.{both-fit, not-fit, moved-fits}
 use Rattle.floats.proofs.move_part.Statement.{statement}
 use Rattle.floats.proofs.move_part.Tie as tie

@@ -1,59 +1,51 @@
--- `commit`: the blocks of the first j links are laid. Assumes nothing.
-use Rattle.kinematics.proofs.Laid.{laid-more, laid-none, laid-skip}
-use Rattle.kinematics.specs.State.{blocksOf, marked, blocksLaid}
-use lib.ListN.{length}
-use Prim.Native.Nat.{_+_, _-_, _≤_, ℕ}
-use mathlib.Core.Logic.{⊎-elim}
-use mathlib.Core.Path.{_∙_, _≡_, ap, refl}
-use native.Mathlib.Omega.{arith}
 use borrow.Author.Needs.{needs}
 use Rattle.kinematics.proofs.commit.Statement.{statement}
 use Rattle.kinematics.proofs.commit.Tie as tie
+use Rattle.kinematics.proofs.commit.Reads as reads
+use Rattle.kinematics.proofs.commit.Lts as lts
+use Rattle.floats.proofs.copy_part.Reads as copy-part-reads
 
 abbrev Inv-loop : tie.InvT-loop
-Inv-loop n work tables₀ marks j₀ tables j = (j ≤ n) × (length tables ≡ length tables₀) × (tables ≡ blocksLaid (marked marks) (blocksOf work) j tables₀)
+Inv-loop n work tables₀ marks j₀ tables j = ?
 
 abbrev μ-loop : tie.MeasureT-loop
-μ-loop n work tables₀ marks j₀ tables j = n - j
+μ-loop n work tables₀ marks j₀ tables j = ?
 
+-- src/lib.rt:249:5
 loop-holds : tie.Need-loop-holds Inv-loop μ-loop
-loop-holds c = (omega arith, refl, laid-none (marked (c .before .before .args .t1)) (blocksOf (c .before .before .args .work .now)) (c .before .before .args .tables .now))
+loop-holds c = search needs
 
+-- src/lib.rt:250:12
 array-read-if1 : tie.Need-array-read-if1 Inv-loop μ-loop
 array-read-if1 c = search needs
 
-mul-copy-block : tie.Need-mul-copy-block Inv-loop μ-loop
-mul-copy-block c = search needs
+-- src/lib.rt:251:22
+mul-at : tie.Need-mul-at Inv-loop μ-loop
+mul-at c = search needs
 
-copy-block-requires : tie.Need-copy-block-requires Inv-loop μ-loop
-copy-block-requires c κs = (omega (arith, c .before .before .loop-test .taken, c .before .before .before .before .before .before .pre .0, c .before .before .before .before .before .before .pre .1 .1, c .before .before .before .loop .inv .1), omega (arith, c .before .before .loop-test .taken, c .before .before .before .before .before .before .pre .0, c .before .before .before .before .before .before .pre .1 .0))
+-- src/lib.rt:252:13
+copy-part-requires : tie.Need-copy-part-requires Inv-loop μ-loop
+copy-part-requires c κs = search needs
 
+-- src/lib.rt:254:9
 add-j : tie.Need-add-j Inv-loop μ-loop
 add-j c = search needs
 
+-- src/lib.rt:249:5
 loop-less : tie.Need-loop-less Inv-loop μ-loop
 loop-less c = search needs
 
+-- src/lib.rt:249:5
 loop-again : tie.Need-loop-again Inv-loop μ-loop
-loop-again c =
-    let b = marked (c .before .before .before .before .before .args .t1) in
-    let new = blocksOf (c .before .before .before .before .before .args .work .now) in
-    let t = c .before .before .before .before .before .args .tables .now in
-    let j = c .before .before .loop .j in
-    let v = c .before .before .loop .inv in
-    let h : c .before .before .loop .j + 1 ≤ c .before .before .before .before .before .args .n = omega arith in
-    ⊎-elim
-    (λ w. (h, ap length (w .5) ∙ w .3 .given ∙ v .1, w .5 ∙ w .2 .ensures ∙ laid-more b new j t (c .before .before .loop .tables) (v .2) (w .0 .taken) _ refl))
-    (λ w. (h, ap length (w .1) ∙ v .1, w .1 ∙ laid-skip b new j t (c .before .before .loop .tables) (v .2) (w .0 .left)))
-    (c .if1 .came)
+loop-again c = search needs
 
+-- src/lib.rt:242:1
 same-length : tie.Need-same-length Inv-loop μ-loop
 same-length c = search needs
 
+-- src/lib.rt:242:1
 returns : tie.Need-returns Inv-loop μ-loop
-returns c =
-    let e : c .before .loop .j ≡ c .before .before .before .before .args .n = omega arith in
-    c .before .loop .inv .2 ∙ ap (λ (k : ℕ). blocksLaid (marked (c .before .before .before .before .args .t1)) (blocksOf (c .before .before .before .before .args .work .now)) k (c .before .before .before .before .args .tables .now)) e
+returns c = search needs
 
 pub commit-spec : {M : Type 1} → statement M
 commit-spec =
@@ -63,8 +55,8 @@ commit-spec =
     μ-loop
     loop-holds
     array-read-if1
-    mul-copy-block
-    copy-block-requires
+    mul-at
+    copy-part-requires
     add-j
     loop-less
     loop-again

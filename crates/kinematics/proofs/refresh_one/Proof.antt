@@ -1,55 +1,77 @@
--- `refresh_one`: its turn is over a block of its own, which is written back where all is finite. Assumes nothing.
-use Rattle.kinematics.proofs.One.{fits, one-no, one-unfit, one-yes}
-use mathlib.Core.Path.{_∙_, refl, sym}
-use native.Mathlib.Omega.{arith}
 use borrow.Author.Needs.{needs}
 use Rattle.kinematics.proofs.refresh_one.Statement.{statement}
 use Rattle.kinematics.proofs.refresh_one.Tie as tie
+use Rattle.kinematics.proofs.refresh_one.Reads as reads
+use Rattle.kinematics.proofs.refresh_one.Lts as lts
+use Rattle.floats.proofs.copy_part.Reads as copy-part-reads
+use Rattle.kinematics.proofs.copy_kept.Reads as copy-kept-reads
+use Rattle.kinematics.proofs.fits_one.Reads as fits-one-reads
+use Rattle.kinematics.proofs.refresh_link.Reads as refresh-link-reads
+use Rattle.limits.proofs.fewer.Reads as fewer-reads
 
+-- src/lib.rt:303:8
 fits-one-requires : tie.Need-fits-one-requires
 fits-one-requires c κs = search needs
 
+-- src/lib.rt:304:23
 cast-fewer : tie.Need-cast-fewer
 cast-fewer c = search needs
 
+-- src/lib.rt:304:13
 fewer-requires : tie.Need-fewer-requires
 fewer-requires c κs = search needs
 
+-- src/lib.rt:306:19
 slice-aggregate-copy-kept : tie.Need-slice-aggregate-copy-kept
 slice-aggregate-copy-kept c = search needs
 
+-- src/lib.rt:306:9
 copy-kept-requires : tie.Need-copy-kept-requires
-copy-kept-requires c κs = let f = fits (c .before .before .before .before .before .before .before .before .args .start) (c .before .before .before .before .before .before .before .before .args .j) (c .before .before .before .before .before .before .before .before .args .tables .now) (sym (c .before .before .before .before .before .fits-one .ensures) ∙ c .before .before .before .before .if1 .taken) in (refl, omega (arith, f, c .before .before .fewer .ensures), f .0)
+copy-kept-requires c κs = search needs
 
+-- src/lib.rt:307:54
 slice-aggregate-refresh-link : tie.Need-slice-aggregate-refresh-link
 slice-aggregate-refresh-link c = search needs
 
+-- src/lib.rt:307:13
 refresh-link-requires : tie.Need-refresh-link-requires
-refresh-link-requires c κs = let f = fits (c .before .before .before .before .before .before .before .before .before .before .before .args .start) (c .before .before .before .before .before .before .before .before .before .before .before .args .j) (c .before .before .before .before .before .before .before .before .before .before .before .args .tables .now) (sym (c .before .before .before .before .before .before .before .before .fits-one .ensures) ∙ c .before .before .before .before .before .before .before .if1 .taken) in (search needs, omega (arith, f .2))
+refresh-link-requires c κs = search needs
 
-slice-aggregate-put-block : tie.Need-slice-aggregate-put-block
-slice-aggregate-put-block c = search needs
+-- src/lib.rt:309:31
+mul-copy-part : tie.Need-mul-copy-part
+mul-copy-part c = search needs
 
-put-block-requires : tie.Need-put-block-requires
-put-block-requires c κs = let f = fits (c .before .before .before .before .before .before .before .before .before .before .before .before .before .before .before .before .args .start) (c .before .before .before .before .before .before .before .before .before .before .before .before .before .before .before .before .args .j) (c .before .before .before .before .before .before .before .before .before .before .before .before .before .before .before .before .args .tables .now) (sym (c .before .before .before .before .before .before .before .before .before .before .before .before .before .fits-one .ensures) ∙ c .before .before .before .before .before .before .before .before .before .before .before .before .if1 .taken) in (search needs, f .1, f .0)
+-- src/lib.rt:309:42
+slice-aggregate-copy-part : tie.Need-slice-aggregate-copy-part
+slice-aggregate-copy-part c = search needs
 
+-- src/lib.rt:309:13
+copy-part-requires : tie.Need-copy-part-requires
+copy-part-requires c κs = search needs
+
+-- src/lib.rt:310:13
 same-length : tie.Need-same-length
 same-length c = search needs
 
+-- src/lib.rt:310:13
 returns : tie.Need-returns
-returns c = one-yes (c .before .before .before .before .before .before .before .before .before .before .before .before .before .before .before .before .before .before .before .args .l) (c .before .before .before .before .before .before .before .before .before .before .before .before .before .before .before .before .before .before .before .args .above) (c .before .before .before .before .before .before .before .before .before .before .before .before .before .before .before .before .before .before .before .args .start) (c .before .before .before .before .before .before .before .before .before .before .before .before .before .before .before .before .before .before .before .args .j) (c .before .before .before .before .before .before .before .before .before .before .before .before .before .before .before .before .before .before .before .args .tables .now) (c .before .before .before .before .before .before .before .before .before .before .before .before .before .fewer .result) (c .before .before .before .before .before .before .before .before .before .before .before .before .before .fewer .ensures) (c .before .before .before .before .before .before .before .before .before .before .copy-kept .last .0) (c .before .before .before .before .before .before .before .refresh-link .last .1 .1 .1 .1 .0) (c .before .before .before .before .before .before .before .before .before .before .copy-kept .ensures) (c .before .before .before .before .before .before .before .refresh-link .result .link) (c .before .before .before .before .before .before .before .refresh-link .result .fine) (c .before .before .before .before .before .before .before .refresh-link .ensures) (sym (c .before .before .before .before .before .before .before .before .before .before .before .before .before .before .before .before .fits-one .ensures) ∙ c .before .before .before .before .before .before .before .before .before .before .before .before .before .before .before .if1 .taken) (c .before .before .before .before .before .if2 .taken) _ (c .before .before .put-block .ensures)
+returns c = search needs
 
+-- src/lib.rt:300:1
 same-length-2 : tie.Need-same-length-2
 same-length-2 c = search needs
 
+-- src/lib.rt:300:1
 returns-2 : tie.Need-returns-2
-returns-2 c = one-no (c .before .before .before .before .before .before .before .before .before .before .before .before .before .before .args .l) (c .before .before .before .before .before .before .before .before .before .before .before .before .before .before .args .above) (c .before .before .before .before .before .before .before .before .before .before .before .before .before .before .args .start) (c .before .before .before .before .before .before .before .before .before .before .before .before .before .before .args .j) (c .before .before .before .before .before .before .before .before .before .before .before .before .before .before .args .tables .now) (c .before .before .before .before .before .before .before .before .fewer .result) (c .before .before .before .before .before .before .before .before .fewer .ensures) (c .before .before .before .before .before .copy-kept .last .0) (c .before .before .refresh-link .last .1 .1 .1 .1 .0) (c .before .before .before .before .before .copy-kept .ensures) (c .before .before .refresh-link .result .link) (c .before .before .refresh-link .result .fine) (c .before .before .refresh-link .ensures) (c .if2 .left)
+returns-2 c = search needs
 
+-- src/lib.rt:300:1
 same-length-3 : tie.Need-same-length-3
 same-length-3 c = search needs
 
+-- src/lib.rt:300:1
 returns-3 : tie.Need-returns-3
-returns-3 c = one-unfit (c .before .before .before .before .args .l) (c .before .before .before .before .args .above) (c .before .before .before .before .args .start) (c .before .before .before .before .args .j) (c .before .before .before .before .args .tables .now) (sym (c .before .fits-one .ensures) ∙ c .if1 .left)
+returns-3 c = search needs
 
 pub refresh-one-spec : {M : Type 1} → statement M
 refresh-one-spec =
@@ -62,8 +84,9 @@ refresh-one-spec =
     copy-kept-requires
     slice-aggregate-refresh-link
     refresh-link-requires
-    slice-aggregate-put-block
-    put-block-requires
+    mul-copy-part
+    slice-aggregate-copy-part
+    copy-part-requires
     same-length
     returns
     same-length-2

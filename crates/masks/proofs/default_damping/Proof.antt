@@ -1,11 +1,9 @@
 -- `default_damping`: what is accepted fits the memory and is laid over it; a refusal leaves it as it was. Assumes nothing.
-use native.Mathlib.Omega.{arith}
 use mathlib.Core.Path.{_∙_, sym}
 use borrow.Author.Needs.{needs}
 use Rattle.refusal.proofs.Answers.{filled-none, filled-some}
 use Rattle.masks.specs.Answers.{dampingAnswer}
 use Rattle.masks.proofs.Answers.{damping-fits}
-use Rattle.masks.proofs.Laws.{dofs-le}
 use Rattle.masks.proofs.default_damping.Statement.{statement}
 use Rattle.masks.proofs.default_damping.Tie as tie
 

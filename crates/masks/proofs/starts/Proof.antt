@@ -1,11 +1,9 @@
 -- `starts`: what is accepted fits the memory and is laid over it; a refusal leaves it as it was. Assumes nothing.
-use native.Mathlib.Omega.{arith}
 use mathlib.Core.Path.{_∙_, sym}
 use borrow.Author.Needs.{needs}
 use Rattle.refusal.proofs.Answers.{filled-none, filled-some}
 use Rattle.masks.specs.Answers.{startsAnswer}
 use Rattle.masks.proofs.Answers.{starts-fit}
-use Rattle.masks.proofs.Totals.{total-le}
 use Rattle.masks.proofs.starts.Statement.{statement}
 use Rattle.masks.proofs.starts.Tie as tie
 
