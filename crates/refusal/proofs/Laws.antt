@@ -4,8 +4,11 @@ use mathlib.Core.Path.{_≡_, refl, sym, ap₂, subst, _∙_}
 use mathlib.Core.Logic.{_⊎_, inl, inr}
 use mathlib.Core.List.{List, [], _∷_}
 use native.Mathlib.Nat.{eq-zero-or-pos}
+use native.Mathlib.Numerals.{sub-one}
 use native.Mathlib.Omega.{arith}
 use mathlib.Core.Bool.{Bool, true}
+use lib.ListN.{length, drop, getD}
+use lib.Seq.{drop-cons}
 use Rattle.refusal.specs.Refusal.{unlessOf, lowerOf, lowest, In, Lowest}
 use Rattle.refusal.proofs.Tests.{holds}
 
@@ -77,17 +80,20 @@ more k r ks low = record {
     below : (j : ℕ) → r ≤ j → (r ≡ 0 → ⊥) → lowerOf k r ≤ j
     below j l h = let s = least-second k r h in omega arith
 
-alone : (k : ℕ) → Lowest (k ∷ []) k
-alone k = record {
-  none = λ e j i. elim i [ inl p ↦ p ∙ e | inr q ↦ absurd q ];
-  given = λ h. inl refl;
-  least = λ j i h. elim i [ inl p ↦ omega arith | inr q ↦ absurd q ];
-}
+pub first-then-rest : (k : ℕ) (ks : List ℕ) → lowerOf k (lowest ks) ≡ lowest (k ∷ ks)
+unfolding lowerOf
+first-then-rest zero [] = refl
+first-then-rest (suc k) [] = refl
+first-then-rest k (j ∷ ks) = refl
 
 pub is-lowest : (ks : List ℕ) → Lowest ks (lowest ks)
 is-lowest [] = record { none = λ e k i. absurd i; given = λ h. absurd (h refl); least = λ k i. absurd i }
-is-lowest (k ∷ []) = alone k
-is-lowest (k ∷ j ∷ ks) = more k (lowest (j ∷ ks)) (j ∷ ks) (is-lowest (j ∷ ks))
+is-lowest (k ∷ ks) = rw first-then-rest at (more k (lowest ks) ks (is-lowest ks))
+
+-- from a place on, and from the place before it
+pub one-earlier : (ks : List ℕ) (i : ℕ) → 0 < i → i ≤ length ks → lowerOf (getD ks (i - 1) 0) (lowest (drop i ks)) ≡ lowest (drop (i - 1) ks)
+one-earlier ks zero h l = absurd (omega arith)
+one-earlier ks (suc i) h l = rw (sub-one, drop-cons ks i 0) (first-then-rest (getD ks i 0) (drop (suc i) ks))
 
 -- ---- a list of tests that gives no refusal: each test holds
 
@@ -98,7 +104,4 @@ pub first-holds : (b : Bool) (k : ℕ) (ks : List ℕ) → lowest (unlessOf b (s
 first-holds b k ks e = holds-in (unlessOf b (suc k) ∷ ks) e b k (inl refl)
 
 pub rest-accepted : (k : ℕ) (ks : List ℕ) → lowest (k ∷ ks) ≡ 0 → lowest ks ≡ 0
-rest-accepted k ks e = elim (eq-zero-or-pos (lowest ks)) [
-  | inl z ↦ z
-  | inr l ↦ is-lowest (k ∷ ks) .none e (lowest ks) (inr (is-lowest ks .given (λ z. omega arith)))
-]
+rest-accepted k ks e = none-of k (lowest ks) (first-then-rest k ks ∙ e) .1

@@ -1,6 +1,6 @@
 // Refusals: a number for each, where 0 is none. Several at once give the lowest.
 ghost use mathlib.Core.Path.{_≡_};
-ghost use Rattle.refusal.specs.Refusal.{unlessOf, lowerOf};
+ghost use Rattle.refusal.specs.Refusal.{unlessOf, lowerOf, lowest};
 ghost use Rattle.refusal.specs.Counted.{countedOf};
 
 // The refusal k, unless the test holds.
@@ -21,6 +21,19 @@ pub fn lower(a: u8, b: u8) -> u8
         return a;
     }
     if a < b { a } else { b }
+}
+
+// The lowest of a list of refusals.
+pub fn lowest(refusals: &[u8]) -> u8
+    ensures { λ r. ⌜ r ≡ lowest (now (refusals .entry)) ⌝ }
+{
+    let mut low = 0;
+    let mut i = refusals.len();
+    while 0 < i {
+        i -= 1;
+        low = lower(refusals[i], low);
+    }
+    low
 }
 
 // What a call that counts answers: a refusal and a zero count, or 0 and what was counted.
