@@ -1,58 +1,75 @@
+-- `copy_parent`: a later link's block from the one list or the other, a root's zeros. Assumes nothing.
+use borrow.Author.Tests.{le-ltb, lt-ltb}
+use lib.ListN.{length-replicate}
+use Prim.Native.Nat.{_*_}
+use mathlib.Core.Path.{_∙_}
+use native.Mathlib.Omega.{arith}
+use Rattle.limits.specs.Limits.{blockSize}
+use Rattle.floats.specs.Floats.{zero32}
+use Rattle.floats.proofs.Parts.{copied-fits, copied-whole, moved-fits}
+use Rattle.kinematics.specs.Blocks.{copiedFrom, zeroBlock}
 use borrow.Author.Needs.{needs}
 use Rattle.kinematics.proofs.copy_parent.Statement.{statement}
 use Rattle.kinematics.proofs.copy_parent.Tie as tie
-use Rattle.kinematics.proofs.copy_parent.Reads as reads
-use Rattle.kinematics.proofs.copy_parent.Lts as lts
-use Rattle.floats.proofs.copy_part.Reads as copy-part-reads
-use Rattle.floats.proofs.move_part.Reads as move-part-reads
 
--- src/lib.rt:185:14
 mul-to : tie.Need-mul-to
 mul-to c = search needs
 
--- src/lib.rt:187:20
 mul-from : tie.Need-mul-from
 mul-from c = search needs
 
--- src/lib.rt:189:13
 move-part-requires : tie.Need-move-part-requires
 move-part-requires c κs = search needs
 
--- src/lib.rt:190:13
 same-length : tie.Need-same-length
 same-length c = search needs
 
--- src/lib.rt:190:13
 returns : tie.Need-returns
-returns c = search needs
+unfolding copiedFrom
+returns c =
+    let fresh = c .before .before .before .before in
+    let later = fresh .before in
+    let s = later .before .before .before in
+    let own = s .args in
+    rw (lt-ltb (own .p) (own .j) (later .if1 .taken), fresh .if2 .taken)
+    (c .before .before .move-part .ensures
+    ∙ moved-fits (own .p * blockSize) (own .j * blockSize) blockSize (own .work .now) (omega (arith, later .if1 .taken)) (omega (arith, s .pre)))
 
--- src/lib.rt:192:9
 copy-part-requires : tie.Need-copy-part-requires
 copy-part-requires c κs = search needs
 
--- src/lib.rt:193:9
 same-length-2 : tie.Need-same-length-2
 same-length-2 c = search needs
 
--- src/lib.rt:193:9
 returns-2 : tie.Need-returns-2
-returns-2 c = search needs
+unfolding copiedFrom
+returns-2 c =
+    let kept = c .before .before .before .before in
+    let later = kept .before in
+    let s = later .before .before .before in
+    let own = s .args in
+    rw (lt-ltb (own .p) (own .j) (later .if1 .taken), kept .if2 .left)
+    (c .before .before .copy-part .ensures
+    ∙ copied-fits (own .j * blockSize) (own .p * blockSize) blockSize (own .work .now) (own .tables .now) (omega (arith, s .pre)) (omega (arith, s .pre, later .if1 .taken)))
 
--- src/lib.rt:196:25
 slice-aggregate-copy-part : tie.Need-slice-aggregate-copy-part
 slice-aggregate-copy-part c = search needs
 
--- src/lib.rt:196:5
 copy-part-requires-2 : tie.Need-copy-part-requires-2
 copy-part-requires-2 c κs = search needs
 
--- src/lib.rt:181:1
 same-length-3 : tie.Need-same-length-3
 same-length-3 c = search needs
 
--- src/lib.rt:181:1
 returns-3 : tie.Need-returns-3
-returns-3 c = search needs
+unfolding copiedFrom
+returns-3 c =
+    let root = c .before .before .before .before .before in
+    let s = root .before .before .before in
+    let own = s .args in
+    rw (le-ltb (own .p) (own .j) (root .if1 .left))
+    (c .before .before .copy-part2 .ensures
+    ∙ copied-whole (own .j * blockSize) blockSize (own .work .now) zeroBlock (omega (arith, s .pre)) (length-replicate blockSize zero32))
 
 pub copy-parent-spec : {M : Type 1} → statement M
 copy-parent-spec =
