@@ -36,7 +36,7 @@ use Rattle.addition.specs.declared.NewLink.{NewLink}
 use Rattle.addition.specs.NewLink.{zeros, linkOf, entriesSet, rowsWith, addedInputs}
 use Rattle.kinematics.specs.State.{only}
 use Rattle.addition.specs.Addition.{addRefusal, linkAdded}
-use Rattle.addition.specs.Promise.{IsAdded, AddRight}
+use Rattle.addition.specs.Promise.{IsAdded}
 use Rattle.addition.proofs.Entries.{room}
 use Rattle.addition.proofs.Tests.{Passed, passed}
 use Rattle.addition.proofs.Added.{zeros-enough, laid-enough, still-ok}
@@ -173,7 +173,8 @@ module _ (a : Arm) (t : List Float) (sized : Sized a) (settled : Settled a t) (n
     apart = λ j h z. (λ q. ne-eqb j n z, getD-set-other ls n j (linkOf new) noLink z);
   }
 
-pub the-addition : AddRight
+pub the-addition : (a : Arm) (t : List Float) → Sized a → Settled a t → (new : NewLink)
+    → Right a t (addRefusal a t new) (addedInputs a new) (IsAdded a) (linkAdded a t new)
 unfolding linkAdded
 the-addition a t sized settled new =
     right a t sized settled (addRefusal a t new) (addedInputs a new) (only (a .«link_count»)) (IsAdded a) (λ e.

@@ -7,6 +7,7 @@ use native.Mathlib.Omega.{arith}
 use lib.ListN.{length, take, getD, set}
 use lib.Seq.{set-set}
 use lib.Ieee.{Float}
+use Rattle.kinematics.specs.Inner.{turnedOut, refreshOne}
 use Rattle.arm.specs.Inner.{handedIn}
 use Rattle.limits.specs.Limits.{linkLimit, dofLimit}
 use Rattle.masks.specs.Starts.{startOf}
@@ -19,7 +20,7 @@ use Rattle.arm.proofs.Handed.{found-masks}
 use Rattle.arm.proofs.Live.{start-whole}
 use Rattle.kinematics.specs.declared.Turned.{Turned}
 use Rattle.kinematics.specs.State.{only}
-use Rattle.kinematics.specs.Answers.{refreshMarked, turnedOut, refreshOne}
+use Rattle.kinematics.specs.Answers.{refreshMarked}
 use Rattle.kinematics.proofs.One.{asMarked}
 use Rattle.full_working.specs.Outcome.{out}
 use Rattle.full_working.proofs.Passed.{one-on, one-off}

@@ -7,6 +7,7 @@ use native.Mathlib.Omega.{arith}
 use borrow.Author.Tests.{leb-true, ltb-true, eqb-true}
 use lib.Dec.{eqb, ltb}
 use lib.Ieee.{Float}
+use Rattle.addition.specs.Inner.{Small}
 use Rattle.lists.proofs.Bools.{both-hold}
 use Rattle.limits.specs.Limits.{linkLimit}
 use Rattle.refusal.proofs.Tests.{holds}
@@ -18,7 +19,6 @@ use Rattle.arm.specs.HandedIn.{isNew, armRefusal}
 use Rattle.full_working.specs.Outcome.{tablesFit}
 use Rattle.one_link.specs.Above.{aboveFinite}
 use Rattle.addition.specs.declared.NewLink.{NewLink}
-use Rattle.addition.specs.NewLink.{Small}
 use Rattle.addition.specs.Addition.{eachMask, masksFit, floatsFinite, addRefusal}
 
 -- ---- the masks

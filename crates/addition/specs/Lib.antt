@@ -1,3 +1,4 @@
 pub mod NewLink
 pub mod Addition
 pub mod Promise
+pub mod Inner

@@ -1,10 +1,9 @@
 -- A new link, its row entries, and the arm with it: damping by default, other rows, coordinates and springs zero, joint rotation identity.
-use Prim.Native.Nat.{ℕ, _+_, _≤_}
+use Prim.Native.Nat.{ℕ, _+_}
 use mathlib.Core.List.{List, map}
 use lib.ListN.{set, take, replicate}
 use lib.Ieee.{Float}
 use Rattle.lists.specs.Lists.{laid, modify, withPart}
-use Rattle.limits.specs.Limits.{linkLimit}
 use Rattle.floats.specs.Floats.{zero32}
 use Rattle.masks.specs.Masks.{dofsOf, dampingRow}
 use Rattle.multibody_joint.specs.Joint.{newJoint}
@@ -15,13 +14,6 @@ use Rattle.arm.specs.declared.RowName.the-variants.{Damping}
 use Rattle.arm.specs.declared.Arm.{Arm}
 use Rattle.arm.specs.Arm.{dofCountOf, rowNumber}
 use Rattle.addition.specs.declared.NewLink.{NewLink}
-
--- its numbers are small
-pub record Small (new : NewLink) : Type 0 where
-  pub parent : new .parent ≤ linkLimit
-  pub locked : new .locked ≤ 7
-  pub limit : new .limit ≤ 7
-  pub motor : new .motor ≤ 7
 
 abbrev pub zeros : List Float
 zeros = replicate 3 zero32

@@ -3,13 +3,14 @@
 ghost use mathlib.Core.Path.{_≡_};
 ghost use Prim.Native.Nat.{min, _+_, _≤_};
 ghost use lib.ListN.{take};
+ghost use Rattle.addition.specs.Inner.{Small};
 ghost use Rattle.arm.specs.Inner.{handedIn};
 ghost use Rattle.lists.specs.Lists.{laid};
 ghost use Rattle.limits.specs.Limits.{linkLimit, dofLimit};
 ghost use Rattle.masks.specs.Masks.{dampingRow};
 ghost use Rattle.arm.specs.HandedIn.{isNew};
 ghost use Rattle.full_working.specs.Outcome.{out};
-ghost use Rattle.addition.specs.NewLink.{Small, linkOf, entriesSet, zeros, rowsFrom};
+ghost use Rattle.addition.specs.NewLink.{linkOf, entriesSet, zeros, rowsFrom};
 ghost use Rattle.addition.specs.Addition.{masksFit, floatsFinite, turnsFit, addRefusal, linkAdded};
 use arm::Arm;
 use arm::Edited;

@@ -7,6 +7,7 @@ use native.Mathlib.Omega.{arith}
 use borrow.Author.Tests.{ltb-true}
 use lib.ListN.{length, take}
 use lib.Seq.{getD-take, length-take-le}
+use Rattle.part_arm.specs.Inner.{placesIn}
 use Rattle.arm.proofs.Accepted.{accepted}
 use Rattle.refusal.specs.Counted.{out as mapped}
 use Rattle.refusal.specs.declared.Counted.{Counted}
@@ -22,7 +23,7 @@ use Rattle.arm.specs.declared.Arm.{Arm}
 use Rattle.arm.specs.Arm.{liveLinks, linksOf, couplingsOf, parentsOf, linkAt, noLink, noCoupling, couplingAt, parentOf}
 use Rattle.arm.specs.HandedIn.{couplingLinksFit, parentsEarlier, couplingsLinksFit, armRefusal}
 use Rattle.arm.proofs.Live.{parents-live}
-use Rattle.part_arm.specs.Places.{placesOf, placesIn}
+use Rattle.part_arm.specs.Places.{placesOf}
 use Rattle.part_arm.specs.Part.{partArm}
 use Rattle.arm_split.proofs.Heads.{in-survives, is-in, here-read, number-read, head-read}
 use Rattle.arm_split.proofs.Same.{Agree, part-same}

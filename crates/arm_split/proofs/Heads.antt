@@ -7,6 +7,7 @@ use native.Mathlib.Omega.{arith}
 use borrow.Author.Tests.{eq-eqb, ne-eqb}
 use lib.Dec.{eqb}
 use lib.ListN.{length, List·getD-append}
+use Rattle.part_arm.specs.Inner.{partIn, numberIn, hereIn, headIn}
 use Rattle.lists.proofs.Numbers.{count-le, count-lt}
 use Rattle.lists.specs.Numbers.{oneMore, countBelow}
 use Rattle.lists.proofs.Lists.{any-default}
@@ -21,7 +22,6 @@ use Rattle.topology.proofs.Pass.{part-head}
 use Rattle.topology.proofs.Mapped.{map-length}
 use Rattle.topology.proofs.Above.{above-le}
 use Rattle.topology.proofs.Theorems.{map-at, with-parent, nearest-head, in-part}
-use Rattle.part_arm.specs.Places.{partIn, numberIn, hereIn, headIn}
 
 none-below : (n : ℕ) (test : ℕ → Bool) → ((j : ℕ) → j < n → test j ≡ true → ⊥) → countBelow n test ≡ 0
 unfolding countBelow

@@ -10,6 +10,7 @@ use borrow.Author.Tests.{leb-true, le-leb}
 use lib.ListN.{length, drop, replicate, length-map, length-append, length-replicate, List·getD-map}
 use lib.Seq.{ext-getD, drop-at}
 use lib.Ieee.{Float}
+use Rattle.kinematics.specs.Inner.{newBlock, blocksLaid}
 use Rattle.arm.proofs.Accepted.{accepted, not-refused}
 use Rattle.arm.proofs.Relinked.{standing, link-passes, links-pass, still-accepted}
 use Rattle.refusal.proofs.Laws.{rest-accepted}
@@ -26,7 +27,7 @@ use Rattle.arm.specs.declared.Arm.{Arm}
 use Rattle.arm.specs.Arm.{liveLinks, noLink, linkAt, lockedOf}
 use Rattle.arm.specs.HandedIn.{jointFinite, linkFinite, linkAngleFits, armRefusal}
 use Rattle.kinematics.specs.Link.{Kept, finitePlace, finiteKept}
-use Rattle.kinematics.specs.State.{State, state, inputsOf, keptAt, keptOps, stateAfter, fineAfter, cleared, newBlock, parentAt, everyLink, blocksLaid}
+use Rattle.kinematics.specs.State.{State, state, inputsOf, keptAt, keptOps, stateAfter, fineAfter, cleared, parentAt, everyLink}
 use Rattle.kinematics.specs.Answers.{passed, refreshAll}
 use Rattle.kinematics.proofs.Pass.{new-same, only, turn-result, beyond, stays-good}
 use Rattle.kinematics.proofs.Laid.{laid-same, laid-length}

@@ -5,13 +5,14 @@ use mathlib.Core.Bool.{true, false}
 use mathlib.Core.List.{List}
 use lib.ListN.{set}
 use lib.Ieee.{Float}
+use Rattle.kinematics.specs.Inner.{turnedOut}
 use Rattle.arm.specs.Setters.{withLinks}
 use Rattle.arm.specs.declared.Arm.{Arm}
 use Rattle.arm.specs.declared.Edited.{Edited}
 use Rattle.kinematics.specs.declared.Refreshed.{Refreshed}
 use Rattle.kinematics.specs.declared.Turned.{Turned}
 use Rattle.kinematics.specs.State.{only}
-use Rattle.kinematics.specs.Answers.{Outcome as Pass, out as left, refreshMarked, turnedOut}
+use Rattle.kinematics.specs.Answers.{Outcome as Pass, out as left, refreshMarked}
 use Rattle.kinematics.proofs.One.{asMarked}
 use Rattle.full_working.specs.Outcome.{out, workedBy, workedMarked}
 

@@ -13,6 +13,7 @@ use lib.IntN.{ℤ, pos, negsuc}
 use lib.ListN.{length, drop, getD, set, length-map, List·getD-map, List·getD-append, length-replicate, getD-replicate}
 use lib.Seq.{getD-append-add, getD-take, getD-drop, getD-set-other}
 use lib.Ieee.{Float, nan, inf, fin, binary32, add, mul, neg, round, units, odd, sum, size, span, climb, up, down, unlike}
+use Rattle.kinematics.specs.Inner.{resultOf}
 use Rattle.arm.specs.Arm.{noLink, linkAt, lockedOf}
 use Rattle.lists.proofs.Numbers.{all-at}
 use Rattle.lists.proofs.Bools.{both-hold}
@@ -31,7 +32,7 @@ use Rattle.arm.specs.declared.Link.{Link}
 use Rattle.kinematics.specs.declared.Posed.{Posed}
 use Rattle.kinematics.specs.Blocks.{row, plusTimes, shifted, columnAdded, axisAdded, ownAdded, zeroBlock}
 use Rattle.kinematics.specs.Link.{Kept, Inputs, blockFrom, keptOf, rootKept, laterKept, finitePlace, finiteKept}
-use Rattle.kinematics.specs.State.{State, inputsOf, keptAt, resultOf, stateAfter, fineAfter, parentAt, everyLink}
+use Rattle.kinematics.specs.State.{State, inputsOf, keptAt, stateAfter, fineAfter, parentAt, everyLink}
 use Rattle.kinematics.specs.Promises.{Fits, ZeroFrom, ZerosStay, ZerosPast}
 use Rattle.kinematics.proofs.Shift.{row-length}
 use Rattle.kinematics.proofs.Store.{shifted-size, own-size, at-shape}

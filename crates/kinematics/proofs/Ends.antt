@@ -7,6 +7,7 @@ use native.Mathlib.Omega.{arith}
 use borrow.Author.Tests.{lt-leb, le-leb}
 use lib.ListN.{length, drop, replicate, length-replicate, getD-replicate, length-append}
 use lib.Ieee.{Float}
+use Rattle.kinematics.specs.Inner.{blocksOf, newBlock, WorkedOut, blocksLaid}
 use Rattle.floats.specs.Inner.{overlaid}
 use Rattle.floats.proofs.Rows.{overlaid-front}
 use Rattle.limits.specs.Limits.{linkLimit, blockSize, tableSize}
@@ -14,7 +15,7 @@ use Rattle.floats.specs.Floats.{zero32}
 use Rattle.arm.specs.declared.Link.{Link}
 use Rattle.kinematics.specs.declared.Refreshed.{Refreshed}
 use Rattle.kinematics.specs.Blocks.{blockAt}
-use Rattle.kinematics.specs.State.{State, marked, stateAfter, fineAfter, cleared, blocksOf, newBlock, WorkedOut, everyLink, blocksLaid}
+use Rattle.kinematics.specs.State.{State, marked, stateAfter, fineAfter, cleared, everyLink}
 use Rattle.kinematics.specs.Answers.{out, passed, refreshMarked, refreshAll}
 use Rattle.kinematics.proofs.Laid.{laid-same, laid-block, laid-length}
 use Rattle.kinematics.proofs.Turns.{tables-after, new-size}

@@ -9,8 +9,8 @@ use native.Mathlib.Decide.{decLt}
 use lib.ListN.{length, take, drop}
 use lib.Seq.{take-append-le, drop-append-le}
 use lib.Ieee.{Float}
+use Rattle.kinematics.specs.Inner.{blocksLaid}
 use Rattle.lists.proofs.Parts.{room, block-same, block-other, block-length}
-use Rattle.kinematics.specs.State.{blocksLaid}
 use Rattle.lists.specs.Lists.{withPart}
 use Rattle.limits.specs.Limits.{blockSize}
 use Rattle.kinematics.specs.Blocks.{blockAt, withBlock}

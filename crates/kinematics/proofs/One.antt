@@ -12,6 +12,7 @@ use lib.Dec.{leb, ltb}
 use lib.ListN.{length, set}
 use lib.Seq.{set-getD}
 use lib.Ieee.{Float}
+use Rattle.kinematics.specs.Inner.{posedOf, TurnedTo, resultOf, TurnedOutcome, turnedOut, oneKept, oneFits, refreshOne}
 use Rattle.arm.specs.Arm.{noLink, linkAt, lockedOf}
 use Rattle.lists.proofs.Numbers.{all-below}
 use Rattle.lists.specs.Numbers.{allBelow}
@@ -20,10 +21,10 @@ use Rattle.limits.specs.Limits.{linkLimit, dofLimit, tableSize}
 use Rattle.masks.specs.Starts.{startOf}
 use Rattle.arm.specs.declared.Link.{Link}
 use Rattle.kinematics.specs.Blocks.{zeroBlock, blockAt, withBlock}
-use Rattle.kinematics.specs.Link.{Kept, Inputs, posedOf, rootPosed, keptOf, rootKept, laterKept, finiteKept, withKept, TurnedTo}
+use Rattle.kinematics.specs.Link.{Kept, Inputs, rootPosed, keptOf, rootKept, laterKept, finiteKept, withKept}
 use Rattle.kinematics.specs.Pass.{run}
-use Rattle.kinematics.specs.State.{State, state, inputsOf, keptIn, keptAt, only, putKept, resultOf, stateAfter, parentAt}
-use Rattle.kinematics.specs.Answers.{Outcome, out, passed, refreshMarked, TurnedOutcome, turnedOut, oneKept, oneFits, refreshOne}
+use Rattle.kinematics.specs.State.{State, state, inputsOf, keptIn, keptAt, only, putKept, stateAfter, parentAt}
+use Rattle.kinematics.specs.Answers.{Outcome, out, passed, refreshMarked}
 use Rattle.kinematics.proofs.Turns.{start-room, newOf, fineTo, fine-all, Turn, turned-kept}
 use Rattle.kinematics.proofs.Ends.{marked-short, is-marked}
 

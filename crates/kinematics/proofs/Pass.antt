@@ -8,10 +8,27 @@ use native.Mathlib.Omega.{arith}
 use native.Mathlib.Decide.{le-ind}
 use borrow.Author.Tests.{ltb-true}
 use lib.Dec.{ltb}
+use Rattle.kinematics.specs.Promises.{Closed}
 use Rattle.lists.proofs.Bools.{not-then, pick}
 use Rattle.lists.proofs.Numbers.{all-same}
 use Rattle.lists.specs.Numbers.{allBelow}
-use Rattle.kinematics.specs.Pass.{Ops, Laws, Closed, newAt, run, FreshAt}
+use Rattle.kinematics.specs.Pass.{Ops, newAt, run}
+
+-- link j's results are those that its parent's give
+abbrev pub FreshAt : {In Out Store : Type 0} → Ops In Out Store → (ℕ → ℕ) → (ℕ → In) → Store → ℕ → Type 0
+FreshAt O par xs s j = O .at s j ≡ newAt O par xs s j
+
+-- what a store of N entries owes, where it is long enough (`Good`) and what is written has the right shape (`Shape`): an entry that is put is read
+-- back, the others stay
+pub record Laws {In Out Store : Type 0} (O : Ops In Out Store) (N : ℕ) : Type 1 where
+  pub Good : Store → Type 0
+  pub Shape : Out → Type 0
+  pub shape-root : (x : In) → Shape (O .root x)
+  pub shape-later : (o : Out) (x : In) → Shape o → Shape (O .later o x)
+  pub shape-at : (s : Store) (j : ℕ) → Good s → j < N → Shape (O .at s j)
+  pub same : (s : Store) (j : ℕ) (o : Out) → Good s → Shape o → j < N → O .at (O .put s j o) j ≡ o
+  pub other : (s : Store) (j k : ℕ) (o : Out) → Good s → Shape o → j < N → k ≢ j → O .at (O .put s j o) k ≡ O .at s k
+  pub keep : (s : Store) (j : ℕ) (o : Out) → Good s → Shape o → j < N → Good (O .put s j o)
 
 module _ {In Out Store : Type 0} (O : Ops In Out Store) (par : ℕ → ℕ) (xs : ℕ → In) where
   -- ---- one result

@@ -9,6 +9,7 @@ use native.Mathlib.Numerals.{add-one}
 use lib.ListN.{length, set, take, drop, replicate, length-replicate, length-append, take-append-drop}
 use lib.Seq.{ext-getD, drop-at, length-take-le}
 use lib.Ieee.{Float}
+use Rattle.kinematics.specs.Inner.{resultOf, newBlock, blocksLaid}
 use Rattle.arm.specs.Setters.{withPlace}
 use Rattle.lists.proofs.Parts.{blocks-same, block-front, replicated}
 use Rattle.arm.specs.Arm.{noLink, linkAt, lockedOf}
@@ -21,7 +22,7 @@ use Rattle.arm.specs.declared.Link.{Link}
 use Rattle.kinematics.specs.Blocks.{blockAt, zeroBlock, withBlock}
 use Rattle.kinematics.specs.Link.{Kept, finiteKept, withKept}
 use Rattle.kinematics.specs.Pass.{run}
-use Rattle.kinematics.specs.State.{State, state, inputsOf, keptAt, putKept, keptOps, resultOf, stateAfter, fineAfter, cleared, newBlock, parentAt, everyLink, blocksLaid}
+use Rattle.kinematics.specs.State.{State, state, inputsOf, keptAt, putKept, keptOps, stateAfter, fineAfter, cleared, parentAt, everyLink}
 use Rattle.kinematics.specs.Promises.{Fits, Ready, LikeFull, AllFresh, Stays, Rising, UpTo}
 use Rattle.kinematics.proofs.Pass.{new-same, untouched, beyond, stays-good, pass-full, pass-tests}
 use Rattle.kinematics.proofs.Laid.{laid-front, laid-length}

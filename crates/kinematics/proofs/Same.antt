@@ -7,6 +7,7 @@ use mathlib.Core.List.{List, _++_}
 use native.Mathlib.Omega.{arith}
 use lib.ListN.{length, set, drop, replicate, length-replicate, length-append}
 use lib.Ieee.{Float}
+use Rattle.kinematics.specs.Inner.{resultOf, newBlock, WorkedOut, blocksLaid}
 use Rattle.arm.specs.Arm.{linkAt}
 use Rattle.lists.proofs.Numbers.{all-same}
 use Rattle.limits.specs.Limits.{linkLimit, blockSize, tableSize}
@@ -14,7 +15,7 @@ use Rattle.floats.specs.Floats.{zero32}
 use Rattle.arm.specs.declared.Link.{Link}
 use Rattle.kinematics.specs.Link.{Kept, finiteKept, withKept}
 use Rattle.kinematics.specs.Pass.{run}
-use Rattle.kinematics.specs.State.{State, state, inputsOf, keptAt, putKept, keptOps, resultOf, stateAfter, fineAfter, cleared, newBlock, WorkedOut, parentAt, everyLink, blocksLaid}
+use Rattle.kinematics.specs.State.{State, state, inputsOf, keptAt, putKept, keptOps, stateAfter, fineAfter, cleared, parentAt, everyLink}
 use Rattle.kinematics.proofs.Pass.{new-same, only, run-same, full-fresh}
 use Rattle.kinematics.proofs.Laid.{laid-same, laid-front}
 use Rattle.kinematics.proofs.Store.{laws}

@@ -21,10 +21,9 @@ use Rattle.kinematics.specs.declared.Posed.{Posed}
 use Rattle.kinematics.specs.Blocks.{row, plusTimes, shifted, columnAdded, axisAdded, ownAdded}
 use Rattle.masks.specs.Masks.{isFree, dofsBelow}
 use Rattle.kinematics.specs.Link.{Kept, Inputs, blockFrom, keptOf, rootKept, laterKept, withKept}
-use Rattle.kinematics.specs.Pass.{Laws}
 use Rattle.kinematics.specs.State.{State, state, inputsOf, keptAt, putKept, keptOps, stateAfter, parentAt}
 use Rattle.kinematics.proofs.Shift.{row-length}
-use Rattle.kinematics.proofs.Pass.{run-view}
+use Rattle.kinematics.proofs.Pass.{run-view, Laws}
 
 -- ---- a block keeps its size
 

@@ -11,6 +11,7 @@ use borrow.Author.Tests.{lt-ltb, le-ltb}
 use lib.Dec.{ltb}
 use lib.ListN.{length, set, take, drop, length-replicate, length-set, length-map, List·getD-map}
 use lib.Ieee.{Float}
+use Rattle.kinematics.specs.Inner.{copiedFrom, posedOf, TurnedTo, resultOf, newBlock, WorkedOut, blocksLaid}
 use Rattle.arm.specs.Setters.{withPlace}
 use Rattle.lists.proofs.Parts.{part-length, block-same, block-length, lent-part, with-with}
 use Rattle.arm.specs.Arm.{noLink, linkAt, lockedOf}
@@ -23,10 +24,10 @@ use Rattle.masks.specs.Starts.{startOf, totalOf}
 use Rattle.masks.proofs.Totals.{start-next, start-le}
 use Rattle.arm.specs.declared.Link.{Link}
 use Rattle.kinematics.specs.declared.Posed.{Posed}
-use Rattle.kinematics.specs.Blocks.{zeroBlock, blockAt, withBlock, copiedFrom}
-use Rattle.kinematics.specs.Link.{Kept, Inputs, posedOf, laterPosed, rootPosed, blockFrom, keptOf, rootKept, laterKept, finitePlace, finiteKept, withKept, TurnedTo}
+use Rattle.kinematics.specs.Blocks.{zeroBlock, blockAt, withBlock}
+use Rattle.kinematics.specs.Link.{Kept, Inputs, laterPosed, rootPosed, blockFrom, keptOf, rootKept, laterKept, finitePlace, finiteKept, withKept}
 use Rattle.kinematics.specs.Pass.{run}
-use Rattle.kinematics.specs.State.{State, state, inputsOf, keptAt, putKept, keptOps, resultOf, stateAfter, fineAfter, newBlock, WorkedOut, parentAt, blocksLaid}
+use Rattle.kinematics.specs.State.{State, state, inputsOf, keptAt, putKept, keptOps, stateAfter, fineAfter, parentAt}
 use Rattle.kinematics.proofs.Pass.{turn-shape, tests-run}
 use Rattle.kinematics.proofs.Laid.{laid-none, laid-block, laid-more, laid-skip}
 use Rattle.kinematics.proofs.Store.{laws, blank, after-blank}

@@ -1,6 +1,6 @@
 -- Jacobian blocks, by document 01's 'Kinematics': three rows of floats, one after the other, with a column for each degree of freedom.
 use Prim.Native.Nat.{ℕ, _+_, _*_}
-use mathlib.Core.Bool.{Bool, cond}
+use mathlib.Core.Bool.{cond}
 use mathlib.Core.List.{List, _++_}
 use lib.ListN.{getD, set, replicate}
 use lib.Ieee.{Float, nan, neg}
@@ -57,7 +57,3 @@ ownAdded locked start r b =
     axisAdded locked start 2 zero32 zero32 one32
     (axisAdded locked start 1 (neg (r .im)) (r .re) zero32
     (axisAdded locked start 0 (r .re) (r .im) zero32 b))
-
--- what a link copies: a later one its parent's block, from the work area where that was just worked out, else from the tables; a root zeros
-unfoldable pub copiedFrom : Bool → Bool → ℕ → List Float → List Float → List Float
-copiedFrom later fresh at tables work = cond later (part at blockSize (cond fresh work tables)) zeroBlock

@@ -4,3 +4,4 @@ pub mod Pass
 pub mod State
 pub mod Answers
 pub mod Promises
+pub mod Inner

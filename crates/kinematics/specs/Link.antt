@@ -1,7 +1,6 @@
 -- One link's results from what is kept of its parent, by document 01's 'Kinematics': each in f32, in the order that stands there.
 use Prim.Native.Nat.{ℕ}
-use mathlib.Core.Path.{_≡_}
-use mathlib.Core.Bool.{Bool, true, false, _&&_}
+use mathlib.Core.Bool.{Bool, _&&_}
 use mathlib.Core.List.{List}
 use lib.Ieee.{Float}
 use Rattle.floats.specs.Floats.{zero32, one32, allFinite}
@@ -43,11 +42,6 @@ laterPosed above centreAbove joint centre =
       shift23 = pointDifference c3 c2;
       turn = rotationProduct (rotationOf above) (rotationOf (joint .frame1));
     }
-
--- the one or the other, from the links
-unfoldable pub posedOf : Bool → Link → Link → Posed
-posedOf true above l = laterPosed (above .world) (above .centre) (l .joint) (l .centre)
-posedOf false above l = rootPosed (l .joint) (l .centre)
 
 -- ---- its block
 
@@ -99,9 +93,3 @@ finiteKept k = finitePlace (k .world) (k .shift02) (k .shift23) && allFinite (k 
 
 abbrev pub withKept : Link → Kept → Link
 withKept l k = withPlace l (k .world) (k .shift02) (k .shift23)
-
--- a turn of link l, given where it is: from the copied block to its own, in its link, and the test of all results
-pub record TurnedTo (p : Posed) (l : Link) (start : ℕ) (copied block : List Float) (link : Link) (fine : Bool) : Type 0 where
-  pub own : block ≡ blockFrom p (l .joint .locked) start copied
-  pub place : link ≡ withPlace l (p .world) (p .shift02) (p .shift23)
-  pub test : fine ≡ (finitePlace (p .world) (p .shift02) (p .shift23) && allFinite block)

@@ -5,6 +5,7 @@ use mathlib.Core.Bool.{Bool, true, false}
 use mathlib.Core.List.{List, map}
 use lib.ListN.{length, drop, getD}
 use lib.Ieee.{Float, nan}
+use Rattle.kinematics.specs.Inner.{resultOf}
 use Rattle.arm.specs.Arm.{linkAt, lockedOf}
 use Rattle.limits.specs.Limits.{linkLimit, dofLimit, blockSize, tableSize}
 use Rattle.floats.specs.Floats.{zero32}
@@ -15,8 +16,7 @@ use Rattle.arm.specs.declared.Link.{Link}
 use Rattle.kinematics.specs.Blocks.{blockAt, zeroBlock}
 use Rattle.kinematics.specs.declared.Posed.{Posed}
 use Rattle.kinematics.specs.Link.{blockFrom, finiteKept}
-use Rattle.kinematics.specs.Pass.{Closed}
-use Rattle.kinematics.specs.State.{State, state, keptAt, resultOf, stateAfter, fineAfter, cleared, parentAt, everyLink}
+use Rattle.kinematics.specs.State.{State, state, keptAt, stateAfter, fineAfter, cleared, parentAt, everyLink}
 
 -- what is kept of link j is what its parent's gives
 abbrev pub Fresh : List Link → List Float → ℕ → Type 0
@@ -31,6 +31,10 @@ pub record Fits (ls : List Link) (n : ℕ) (t : List Float) : Type 0 where
   pub places : length ls ≡ linkLimit
   pub few : n ≤ linkLimit
   pub long : tableSize ≤ length t
+
+-- what is below a marked link is marked
+abbrev pub Closed : (ℕ → ℕ) → (ℕ → Bool) → ℕ → Type 0
+Closed par b n = (j : ℕ) → j < n → par j < j → b (par j) ≡ true → b j ≡ true
 
 -- only what is at or below a changed link is marked: what is below a marked link is marked, unmarked links are fresh and finite, unused blocks are +0
 pub record Ready (ls : List Link) (n : ℕ) (b : ℕ → Bool) (t : List Float) : Type 0 where

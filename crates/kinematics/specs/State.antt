@@ -1,6 +1,5 @@
 -- What is kept of an arm, poses and shifts in its links and Jacobian blocks in the tables, and the pass that refreshes marked links.
-use mathlib.Core.Path.{_≡_}
-use Prim.Native.Nat.{ℕ, zero, suc}
+use Prim.Native.Nat.{ℕ}
 use mathlib.Core.Bool.{Bool, true, false, cond}
 use mathlib.Core.List.{List, _++_, map}
 use lib.Dec.{eqb}
@@ -14,7 +13,7 @@ use Rattle.arm.specs.declared.Link.{Link}
 use Rattle.arm.specs.Arm.{linkAt, lockedOf}
 use Rattle.kinematics.specs.Blocks.{blockAt, withBlock}
 use Rattle.kinematics.specs.Link.{Kept, Inputs, rootKept, laterKept, finiteKept, withKept}
-use Rattle.kinematics.specs.Pass.{Ops, newAt, run}
+use Rattle.kinematics.specs.Pass.{Ops, run}
 
 -- ---- the links
 
@@ -67,10 +66,6 @@ everyLink j = true
 abbrev pub only : ℕ → ℕ → Bool
 only j k = eqb k j
 
--- link j's results by what a state keeps of its parent, its inputs being those of the links ls
-abbrev pub resultOf : List Link → State → ℕ → Kept
-resultOf ls s j = newAt keptOps (parentAt ls) (inputsOf ls) s j
-
 -- of the first n links those marked are worked out, rising, each from what is kept of its parent
 unfoldable pub stateAfter : List Link → ℕ → (ℕ → Bool) → List Float → State
 stateAfter ls n b t = run keptOps (parentAt ls) (inputsOf ls) b n (state ls t)
@@ -82,23 +77,3 @@ fineAfter ls n b t = allBelow n (λ j. cond (b j) (finiteKept (keptAt (stateAfte
 -- the tables with +0 in every place; memory past them stays
 abbrev pub cleared : List Float → List Float
 cleared t = replicate tableSize zero32 ++ drop tableSize t
-
--- ---- its blocks in another list, as a work area holds them
-
--- the blocks `new` of the first n links that are marked, laid over t
-unfoldable pub blocksLaid : (ℕ → Bool) → (ℕ → List Float) → ℕ → List Float → List Float
-blocksLaid b new zero t = t
-blocksLaid b new (suc j) t = cond (b j) (withBlock j (new j) (blocksLaid b new j t)) (blocksLaid b new j t)
-
-abbrev pub blocksOf : List Float → ℕ → List Float
-blocksOf t j = blockAt j t
-
--- link j's block as its turn works it out
-unfoldable pub newBlock : List Link → (ℕ → Bool) → List Float → ℕ → List Float
-newBlock ls b t j = resultOf ls (stateAfter ls j b t) j .block
-
--- what a pass leaves whose blocks go into a work area
-pub record WorkedOut (ls : List Link) (n : ℕ) (b : ℕ → Bool) (t work work′ : List Float) (links : List Link) (fine : Bool) : Type 0 where
-  pub blocks : work′ ≡ blocksLaid b (newBlock ls b t) n work
-  pub refreshed : links ≡ stateAfter ls n b t .links
-  pub test : fine ≡ fineAfter ls n b t

@@ -9,10 +9,11 @@ use borrow.Author.Tests.{ltb-true, lt-ltb}
 use lib.Dec.{ltb}
 use lib.ListN.{length, getD, take, drop, length-drop, take-append-drop}
 use lib.Seq.{take-at, drop-at, drop-drop, length-take-le}
+use Rattle.numerals.specs.Read.{numberOf, numberAt, areBytes}
 use Rattle.lists.proofs.Bools.{both-hold, both}
 use Rattle.numerals.proofs.Storing.{room}
 use Rattle.numerals.specs.Written.{Written, written, bytesWritten}
-use Rattle.numerals.specs.Bytes.{littleEndian, numberOf, numberAt, areBytes}
+use Rattle.numerals.specs.Bytes.{littleEndian}
 
 pub as-wide : (width n : ℕ) → length (littleEndian width n) ≡ width
 unfolding littleEndian

@@ -1,3 +1,4 @@
 pub mod Written
 pub mod Decimal
 pub mod Bytes
+pub mod Read

@@ -4,9 +4,10 @@ ghost use mathlib.Core.Path.{_≡_};
 ghost use Prim.Native.Nat.{_≤_};
 ghost use lib.ListN.{drop, getD, length};
 ghost use lib.Ieee.{binary32, ofBits, toBits};
+ghost use Rattle.numerals.specs.Read.{numberAt};
 ghost use Rattle.numerals.specs.Written.{written, bytesWritten};
 ghost use Rattle.numerals.specs.Decimal.{decimal, decimalCount};
-ghost use Rattle.numerals.specs.Bytes.{littleEndian, numberAt};
+ghost use Rattle.numerals.specs.Bytes.{littleEndian};
 
 // The bytes, as they are.
 pub fn write_bytes(out: &mut [u8], at: usize, bytes: &[u8]) -> usize

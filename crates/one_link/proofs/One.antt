@@ -6,6 +6,7 @@ use native.Mathlib.Omega.{arith}
 use lib.ListN.{length, length-set, take, getD, set}
 use lib.Seq.{getD-set-same, getD-set-other, take-set-le, take-take}
 use lib.Ieee.{Float}
+use Rattle.kinematics.specs.Inner.{turnedOut, refreshOne}
 use Rattle.lists.proofs.Lists.{any-default, map-take}
 use Rattle.limits.specs.Limits.{linkLimit}
 use Rattle.masks.specs.Starts.{totalOf, startOf}
@@ -14,7 +15,7 @@ use Rattle.arm.specs.declared.Link.{Link}
 use Rattle.arm.specs.Arm.{liveLinks, linksOf, masksOf, lockedOf, noLink, linkAt}
 use Rattle.kinematics.specs.declared.Turned.{Turned}
 use Rattle.kinematics.specs.State.{only}
-use Rattle.kinematics.specs.Answers.{refreshMarked, turnedOut, refreshOne}
+use Rattle.kinematics.specs.Answers.{refreshMarked}
 use Rattle.kinematics.proofs.One.{asMarked, one-marked}
 
 -- l takes the place `link`; `above` is read where its parent stands, or at its own place

@@ -9,6 +9,7 @@ use borrow.Author.Tests.{le-leb, leb-true}
 use lib.ListN.{length, take, drop, replicate, length-replicate, length-append}
 use lib.Seq.{getD-take, length-take-le}
 use lib.Ieee.{Float}
+use Rattle.kinematics.specs.Inner.{resultOf}
 use Rattle.arm.proofs.Accepted.{Accepted, accepted, not-refused}
 use Rattle.arm.specs.Setters.{withLinks, withPlace}
 use Rattle.lists.proofs.Lists.{same-map}
@@ -29,7 +30,7 @@ use Rattle.arm.specs.HandedIn.{linkFinite, armRefusal}
 use Rattle.arm.specs.HandedIn as tests
 use Rattle.kinematics.specs.Blocks.{blockAt, zeroBlock}
 use Rattle.kinematics.specs.Link.{finitePlace, finiteKept}
-use Rattle.kinematics.specs.State.{State, state, inputsOf, keptAt, keptOps, resultOf, stateAfter, fineAfter, cleared, parentAt, everyLink}
+use Rattle.kinematics.specs.State.{State, state, inputsOf, keptAt, keptOps, stateAfter, fineAfter, cleared, parentAt, everyLink}
 use Rattle.kinematics.specs.Answers.{passed, refreshMarked, refreshAll}
 use Rattle.kinematics.proofs.Pass.{new-same}
 use Rattle.kinematics.proofs.Store.{Good, blank, after-blank}

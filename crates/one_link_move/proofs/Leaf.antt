@@ -10,6 +10,7 @@ use borrow.Author.Tests.{lt-leb, ne-eqb}
 use lib.Dec.{eqb, leb}
 use lib.ListN.{length, take, getD, List·getD-eq-default}
 use lib.Seq.{getD-take}
+use Rattle.one_link_move.specs.Inner.{leaf, noChild}
 use Rattle.lists.proofs.Numbers.{length-each, getD-each, all-at}
 use Rattle.lists.specs.Numbers.{allBelow}
 use Rattle.lists.proofs.Lists.{any-default}
@@ -17,7 +18,6 @@ use Rattle.limits.specs.Limits.{linkLimit}
 use Rattle.topology.specs.Parents.{atOrBelow, marks, parentIn}
 use Rattle.topology.proofs.Branch.{mark-none, mark-alone, mark-more}
 use Rattle.kinematics.specs.State.{marked, only}
-use Rattle.one_link_move.specs.Move.{leaf, noChild}
 
 -- a turn of the loop that tests it
 pub leaf-more : (ps : List ℕ) (n link i d : ℕ) (ok : Bool) → i < n → n ≤ length ps → ok ≡ allBelow i (noChild (take n ps) link)

@@ -47,7 +47,7 @@ use Rattle.one_link.proofs.Right.{Edit, right}
 use Rattle.one_link_move.specs.declared.Change.{Change}
 use Rattle.one_link_move.specs.Change.{changed, movedInputs}
 use Rattle.one_link_move.specs.Move.{changeFinite, angleWithin, moveRefusal, linkMoved}
-use Rattle.one_link_move.specs.Promise.{AtOrBelow, MoveRight}
+use Rattle.one_link_move.specs.Promise.{AtOrBelow}
 use Rattle.one_link_move.proofs.Changed.{same-tag, same-parent, same-locked, same-masks, resultsOf, same-results, still-finite, still-within}
 
 -- what a move that is not refused passed
@@ -226,7 +226,8 @@ module _ (a : Arm) (t : List Float) (sized : Sized a) (settled : Settled a t) (l
     apart = λ j h z. (λ q. unmarked j q z, modify-other (changed change) link j ls noLink (λ q. z (subst (AtOrBelow a link) (sym q) (k .there, itself))));
   }
 
-pub the-move : MoveRight
+pub the-move : (a : Arm) (t : List Float) → Sized a → Settled a t → (link : ℕ) (change : Change)
+    → Right a t (moveRefusal a t link change) (movedInputs a link change) (AtOrBelow a link) (linkMoved a t link change)
 unfolding linkMoved
 the-move a t sized settled link change =
     right a t sized settled (moveRefusal a t link change) (movedInputs a link change) (marked (marks (parentsOf a) link)) (AtOrBelow a link) (λ e.

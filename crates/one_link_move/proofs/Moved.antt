@@ -7,6 +7,8 @@ use native.Mathlib.Omega.{arith}
 use lib.ListN.{length, take, getD, set}
 use lib.Seq.{set-set, set-getD}
 use lib.Ieee.{Float}
+use Rattle.one_link_move.specs.Inner.{leaf, answered}
+use Rattle.kinematics.specs.Inner.{turnedOut, refreshOne}
 use Rattle.arm.specs.Inner.{handedIn}
 use Rattle.arm.specs.Setters.{withLinks}
 use Rattle.limits.specs.Limits.{linkLimit}
@@ -22,7 +24,7 @@ use Rattle.arm.proofs.Live.{parents-live}
 use Rattle.kinematics.specs.declared.Refreshed.{Refreshed}
 use Rattle.kinematics.specs.declared.Turned.{Turned}
 use Rattle.kinematics.specs.State.{marked, only}
-use Rattle.kinematics.specs.Answers.{out as left, refreshMarked, turnedOut, refreshOne}
+use Rattle.kinematics.specs.Answers.{out as left, refreshMarked}
 use Rattle.kinematics.proofs.One.{asMarked}
 use Rattle.full_working.specs.Outcome.{out, workedBy, workedMarked}
 use Rattle.full_working.proofs.Passed.{passed-on, one-on, one-off}
@@ -30,7 +32,7 @@ use Rattle.full_working.proofs.Refused.{accepted}
 use Rattle.one_link.proofs.One.{one-placed}
 use Rattle.one_link_move.specs.declared.Change.{Change}
 use Rattle.one_link_move.specs.Change.{changed}
-use Rattle.one_link_move.specs.Move.{moveRefusal, leaf, answered, linkMoved}
+use Rattle.one_link_move.specs.Move.{moveRefusal, linkMoved}
 use Rattle.one_link_move.proofs.Sets.{moved-there}
 use Rattle.one_link_move.proofs.Leaf.{leaf-marks}
 use Rattle.one_link_move.proofs.Move.{passed, within-limit}

@@ -1,3 +1,4 @@
 pub mod Change
 pub mod Move
 pub mod Promise
+pub mod Inner

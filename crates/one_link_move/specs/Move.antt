@@ -1,12 +1,9 @@
 -- The one-link move: what it refuses, what it answers, and what the tables then hold.
 use Prim.Native.Nat.{ℕ}
-use mathlib.Core.Bool.{Bool, true, not, _&&_, _||_}
+use mathlib.Core.Bool.{Bool, true, not, _&&_}
 use mathlib.Core.List.{List, [], _∷_}
-use lib.Dec.{eqb, leb, ltb}
-use lib.ListN.{length}
+use lib.Dec.{eqb, ltb}
 use lib.Ieee.{Float}
-use Rattle.arm.specs.Setters.{withLinks}
-use Rattle.lists.specs.Numbers.{allBelow}
 use Rattle.refusal.specs.Refusal.{unlessOf, lowest}
 use Rattle.floats.specs.Floats.{isFinite}
 use Rattle.masks.specs.Masks.{isAxis, isFree}
@@ -14,8 +11,6 @@ use Rattle.planar.specs.Rotation.{isBeyond}
 use Rattle.planar.specs.Poses.{rotationOf, isTurn, finitePoint, finitePose}
 use Rattle.topology.specs.Parents.{marks, parentIn}
 use Rattle.arm.specs.declared.Arm.{Arm}
-use Rattle.arm.specs.declared.Edited.{Edited}
-use Rattle.arm.specs.declared.Link.{Link}
 use Rattle.arm.specs.Arm.{parentsOf, maskAt}
 use Rattle.arm.specs.HandedIn.{armRefusal}
 use Rattle.kinematics.specs.State.{marked}
@@ -23,7 +18,6 @@ use Rattle.full_working.specs.Outcome.{Outcome, unlessRefused, tablesFit, worke
 use Rattle.one_link.specs.Above.{aboveFinite}
 use Rattle.one_link_move.specs.declared.Change.{Change}
 use Rattle.one_link_move.specs.declared.Change.the-variants.{Coordinate, Frames, Centre}
-use Rattle.one_link_move.specs.declared.ChangeTests.{ChangeTests}
 use Rattle.one_link_move.specs.Change.{movedInputs}
 
 -- ---- what is tested of a change
@@ -58,15 +52,6 @@ angleWithin (Coordinate axis value) = not (eqb axis 2 && isBeyond value)
 angleWithin (Frames first second) = true
 angleWithin (Centre centre) = true
 
-unfoldable pub testsOf : ℕ → Change → ChangeTests
-testsOf locked change = record {
-  axis = axisFits change;
-  free = axisFree locked change;
-  floats = changeFinite change;
-  turns = turnsFit change;
-  angle = angleWithin change;
-}
-
 -- ---- the call
 
 -- of the tables its parent's block is read
@@ -82,18 +67,6 @@ moveRefusal a t link change =
     ∷ unlessOf (angleWithin change) 9
     ∷ armRefusal a
     ∷ [])
-
--- link j is not a later one that has it for a parent
-abbrev pub noChild : List ℕ → ℕ → ℕ → Bool
-noChild ps link j = leb j link || not (eqb (parentIn ps j) link)
-
--- no link is below it
-abbrev pub leaf : List ℕ → ℕ → Bool
-leaf ps link = allBelow (length ps) (noChild ps link)
-
--- a refusal or 0, and the arm with these links
-abbrev pub answered : ℕ → Arm → List Link → Edited
-answered k a ls = record { refusal = k; arm = withLinks a ls }
 
 -- the link and those below it, rising, over what is kept
 unfoldable pub linkMoved : Arm → List Float → ℕ → Change → Outcome

@@ -1,6 +1,7 @@
 // A one-link move: one free coordinate, both frames or the centre of mass of a link is set; then it and the links below it are worked out from what is
 // kept of its parent.
 ghost use mathlib.Core.Path.{_≡_};
+ghost use Rattle.one_link_move.specs.Inner.{testsOf, leaf, answered};
 ghost use Rattle.arm.specs.Inner.{handedIn};
 ghost use Rattle.masks.specs.Masks.{isFree};
 ghost use Prim.Native.Nat.{min};
@@ -9,7 +10,7 @@ ghost use Rattle.limits.specs.Limits.{linkLimit};
 ghost use Rattle.topology.specs.Parents.{marks, parentIn};
 ghost use Rattle.full_working.specs.Outcome.{out};
 ghost use Rattle.one_link_move.specs.Change.{coordinateSet, changed};
-ghost use Rattle.one_link_move.specs.Move.{testsOf, moveRefusal, leaf, answered, linkMoved};
+ghost use Rattle.one_link_move.specs.Move.{moveRefusal, linkMoved};
 use arm::Arm;
 use arm::Edited;
 use arm::HandedIn;

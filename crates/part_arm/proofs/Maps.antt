@@ -4,10 +4,10 @@ use mathlib.Core.Path.{_≡_, sym}
 use mathlib.Core.List.{List}
 use native.Mathlib.Omega.{arith}
 use lib.ListN.{length, getD, List·getD-eq-default}
+use Rattle.part_arm.specs.Inner.{partIn, numberIn}
 use Rattle.lists.proofs.Lists.{any-default}
 use Rattle.limits.specs.Limits.{linkLimit}
 use Rattle.topology.specs.Split.{gone}
-use Rattle.part_arm.specs.Places.{partIn, numberIn}
 
 -- within a list no default is read
 module _ (map : List ℕ) (whole : length map ≡ 2 * linkLimit) (j : ℕ) where

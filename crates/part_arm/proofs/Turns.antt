@@ -8,6 +8,7 @@ use lib.ListN.{length, drop, getD, set, length-drop}
 use borrow.Author.Tests.{lt-leb}
 use lib.Seq.{length-take-le}
 use lib.Ieee.{Float}
+use Rattle.part_arm.specs.Inner.{linksOut, couplingsOut}
 use Rattle.arm.specs.Empty.{blankRow, emptyArm}
 use Rattle.lists.proofs.Gathered.{Laid, chosen-le, laid-as, laid-skip, laid-one, laid-part}
 use Rattle.lists.specs.Lists.{part, withPart}
@@ -26,7 +27,6 @@ use Rattle.part_arm.specs.declared.LinksOut.{LinksOut}
 use Rattle.part_arm.specs.declared.CouplingsOut.{CouplingsOut}
 use Rattle.part_arm.specs.Places.{Places, goesOn}
 use Rattle.part_arm.specs.Part.{newLink, partLinks, ownEntries, partEntries, partRow, couplingStays, newCoupling, partCouplings, partArm}
-use Rattle.part_arm.specs.Coded.{linksOut, couplingsOut}
 
 -- ---- blank places
 

@@ -1,3 +1,3 @@
 pub mod Places
 pub mod Part
-pub mod Coded
+pub mod Inner

@@ -1,11 +1,8 @@
 -- Where the links of an arm go in a split, seen from one part.
-use Prim.Native.Nat.{ℕ, _+_, _*_}
+use Prim.Native.Nat.{ℕ}
 use mathlib.Core.Bool.{Bool, not, _&&_}
-use mathlib.Core.List.{List}
-use lib.Dec.{eqb}
-use lib.ListN.{getD}
 use Rattle.topology.specs.declared.Split.{Split}
-use Rattle.topology.specs.Split.{isHead, isIn, numberOf, gone}
+use Rattle.topology.specs.Split.{isHead, isIn, numberOf}
 use Rattle.arm.specs.declared.Arm.{Arm}
 use Rattle.arm.specs.Arm.{parentsOf}
 
@@ -24,20 +21,3 @@ placesOf a s k = record { here = isIn (parentsOf a) s k; head = isHead (parentsO
 -- a survivor in the part that keeps its joint and its row entries: any but a head
 abbrev pub goesOn : Places → ℕ → Bool
 goesOn p j = p .here j && not (p .head j)
-
--- ---- the same as a split map tells it: two bytes a link, and who has number 0 is the head
-
-unfoldable pub partIn : List ℕ → ℕ → ℕ
-partIn map j = getD map (2 * j) gone
-
-unfoldable pub numberIn : List ℕ → ℕ → ℕ
-numberIn map j = getD map (2 * j + 1) gone
-
-unfoldable pub hereIn : List ℕ → ℕ → ℕ → Bool
-hereIn map k j = eqb (partIn map j) k
-
-unfoldable pub headIn : List ℕ → ℕ → Bool
-headIn map j = eqb (numberIn map j) 0
-
-abbrev pub placesIn : List ℕ → ℕ → Places
-placesIn map k = record { here = hereIn map k; head = headIn map; number = numberIn map }

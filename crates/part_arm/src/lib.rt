@@ -2,9 +2,9 @@
 ghost use mathlib.Core.Path.{_≡_};
 ghost use mathlib.Core.List.{map};
 ghost use Prim.Native.Nat.{_+_};
-ghost use Rattle.part_arm.specs.Places.{partIn, numberIn, hereIn, headIn, placesIn, goesOn};
+ghost use Rattle.part_arm.specs.Inner.{partIn, numberIn, hereIn, headIn, placesIn, linksOut, couplingsOut};
+ghost use Rattle.part_arm.specs.Places.{goesOn};
 ghost use Rattle.part_arm.specs.Part.{newLink, couplingStays, newCoupling, partRow, partArm};
-ghost use Rattle.part_arm.specs.Coded.{linksOut, couplingsOut};
 use arm::Arm;
 use arm::Coupling;
 use arm::Link;

@@ -16,7 +16,6 @@ use Rattle.arm.specs.declared.Arm.{Arm}
 use Rattle.arm.specs.Arm.{liveLinks, linksOf, startAt, rowNumber, linkAt}
 use Rattle.arm.specs.HandedIn.{jointFinite, anglesFit, armRefusal}
 use Rattle.full_working.specs.Outcome.{Outcome, unlessRefused, tablesFit, workedAll}
-use Rattle.whole_step.specs.declared.StepTests.{StepTests}
 
 -- ---- every joint integrated
 
@@ -62,8 +61,3 @@ unfoldable pub wholeStep : Arm → List Float → Float → Outcome
 wholeStep a t dt =
     let new = armAfter a dt in
     unlessRefused (stepRefusal a new t dt) a t (workedAll a new t)
-
--- ---- the tests of one pass over the new links
-
-unfoldable pub stepTestsOf : Arm → StepTests
-stepTestsOf a = record { angles = anglesFit a; floats = jointsFinite a }

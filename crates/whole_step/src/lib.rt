@@ -1,8 +1,9 @@
 // The whole step of an arm (`integrate` of the multibody): every joint is integrated by one dt, then the arm is worked out in full.
 ghost use mathlib.Core.Path.{_≡_};
+ghost use Rattle.whole_step.specs.Inner.{stepTestsOf};
 ghost use Rattle.full_working.specs.Outcome.{out};
 ghost use Rattle.arm.specs.HandedIn.{angleFits};
-ghost use Rattle.whole_step.specs.Step.{linkIntegrated, linksAfter, armAfter, stepTestsOf, stepRefusal, wholeStep};
+ghost use Rattle.whole_step.specs.Step.{linkIntegrated, linksAfter, armAfter, stepRefusal, wholeStep};
 use arm::Arm;
 use arm::Edited;
 use arm::Link;

@@ -1,6 +1,7 @@
 -- `commit`: the blocks of the first j links are laid. Assumes nothing.
+use Rattle.kinematics.specs.Inner.{blocksOf, blocksLaid}
 use Rattle.kinematics.proofs.Laid.{laid-more, laid-none, laid-skip}
-use Rattle.kinematics.specs.State.{blocksOf, marked, blocksLaid}
+use Rattle.kinematics.specs.State.{marked}
 use lib.ListN.{length}
 use Prim.Native.Nat.{ℕ, _+_, _-_, _*_, _≤_}
 use mathlib.Core.Logic.{⊎-elim}

@@ -4,10 +4,11 @@ use lib.ListN.{length-replicate}
 use Prim.Native.Nat.{_*_}
 use mathlib.Core.Path.{_∙_}
 use native.Mathlib.Omega.{arith}
+use Rattle.kinematics.specs.Inner.{copiedFrom}
 use Rattle.limits.specs.Limits.{blockSize}
 use Rattle.floats.specs.Floats.{zero32}
 use Rattle.floats.proofs.Parts.{copied-fits, copied-whole, moved-fits}
-use Rattle.kinematics.specs.Blocks.{copiedFrom, zeroBlock}
+use Rattle.kinematics.specs.Blocks.{zeroBlock}
 use borrow.Author.Needs.{needs}
 use Rattle.kinematics.proofs.copy_parent.Statement.{statement}
 use Rattle.kinematics.proofs.copy_parent.Tie as tie

@@ -1,6 +1,6 @@
 -- `pose_link`: the one or the other. Assumes nothing.
-use Rattle.kinematics.specs.Link.{posedOf}
 use borrow.Author.Needs.{needs}
+use Rattle.kinematics.specs.Inner.{posedOf}
 use Rattle.kinematics.proofs.pose_link.Statement.{statement}
 use Rattle.kinematics.proofs.pose_link.Tie as tie
 

@@ -1,6 +1,6 @@
 -- `change_tests`: each variant is its case of the definitions. Assumes nothing.
-use Rattle.one_link_move.specs.Move.{testsOf}
 use borrow.Author.Needs.{needs}
+use Rattle.one_link_move.specs.Inner.{testsOf}
 use Rattle.one_link_move.proofs.change_tests.Statement.{statement}
 use Rattle.one_link_move.proofs.change_tests.Tie as tie
 

@@ -1,7 +1,7 @@
 -- `is_leaf`: what is tested so far. Assumes nothing.
+use Rattle.one_link_move.specs.Inner.{leaf, noChild}
 use Rattle.lists.specs.Numbers.{allBelow}
 use Rattle.one_link_move.proofs.Leaf.{leaf-more}
-use Rattle.one_link_move.specs.Move.{leaf, noChild}
 use lib.Seq.{length-take-le}
 use lib.ListN.{length, take}
 use Prim.Native.Nat.{_-_, _≤_, ℕ}

@@ -3,6 +3,7 @@ use Prim.Native.Nat.{ℕ}
 use mathlib.Core.Path.{ap, ap₂, _∙_}
 use mathlib.Core.Bool.{_&&_}
 use mathlib.Core.List.{List}
+use Rattle.one_link_move.specs.Inner.{testsOf}
 use Rattle.topology.specs.Parents.{parentIn}
 use Rattle.refusal.proofs.Laws.{lowered}
 use Rattle.refusal.proofs.Tests.{tested}
@@ -10,7 +11,7 @@ use Rattle.arm.proofs.Shape.{links-length}
 use Rattle.arm.proofs.Handed.{found-refusal, found-parents, found-mask}
 use Rattle.one_link.specs.Above.{aboveFinite}
 use Rattle.one_link_move.specs.declared.ChangeTests.{ChangeTests}
-use Rattle.one_link_move.specs.Move.{testsOf, moveRefusal}
+use Rattle.one_link_move.specs.Move.{moveRefusal}
 use borrow.Author.Needs.{needs}
 use Rattle.one_link_move.proofs.move_refusal.Statement.{statement}
 use Rattle.one_link_move.proofs.move_refusal.Tie as tie

@@ -1,6 +1,6 @@
 -- `is_head`: the same test. Assumes nothing.
 use borrow.Author.Needs.{needs}
-use Rattle.part_arm.specs.Places.{headIn}
+use Rattle.part_arm.specs.Inner.{headIn}
 use Rattle.part_arm.proofs.is_head.Statement.{statement}
 use Rattle.part_arm.proofs.is_head.Tie as tie
 

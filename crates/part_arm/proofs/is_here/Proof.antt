@@ -1,6 +1,6 @@
 -- `is_here`: the same test. Assumes nothing.
 use borrow.Author.Needs.{needs}
-use Rattle.part_arm.specs.Places.{hereIn}
+use Rattle.part_arm.specs.Inner.{hereIn}
 use Rattle.part_arm.proofs.is_here.Statement.{statement}
 use Rattle.part_arm.proofs.is_here.Tie as tie
 

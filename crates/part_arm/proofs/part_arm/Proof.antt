@@ -1,6 +1,6 @@
 -- `part_arm`: links, couplings and rows put together. Assumes nothing.
 use borrow.Author.Needs.{needs}
-use Rattle.part_arm.specs.Places.{placesIn}
+use Rattle.part_arm.specs.Inner.{placesIn}
 use Rattle.part_arm.proofs.Turns.{assembled}
 use Rattle.part_arm.proofs.part_arm.Statement.{statement}
 use Rattle.part_arm.proofs.part_arm.Tie as tie

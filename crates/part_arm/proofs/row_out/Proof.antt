@@ -6,13 +6,14 @@ use mathlib.Core.Bool.{cond}
 use mathlib.Core.Path.{_≡_, sym, _∙_}
 use Prim.Native.Nat.{_-_, _≤_}
 use borrow.Author.Needs.{needs}
+use Rattle.part_arm.specs.Inner.{placesIn}
 use Rattle.arm.specs.Empty.{blankRow}
 use Rattle.lists.proofs.Gathered.{Laid, laid-none, laid-length}
 use Rattle.arm.proofs.Live.{start-none}
 use Rattle.arm.proofs.Shape.{links-length, row-length}
 use Rattle.part_arm.proofs.Turns.{row-next, row-room, entries-kept, entries-lost, row-done}
 use Rattle.part_arm.specs.Part.{ownEntries}
-use Rattle.part_arm.specs.Places.{placesIn, goesOn}
+use Rattle.part_arm.specs.Places.{goesOn}
 use Rattle.arm.specs.Arm.{liveLinks, startAt}
 use Rattle.part_arm.proofs.row_out.Statement.{statement}
 use Rattle.part_arm.proofs.row_out.Tie as tie

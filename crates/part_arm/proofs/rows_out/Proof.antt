@@ -5,10 +5,10 @@ use mathlib.Core.List.{map, []}
 use mathlib.Core.Path.{_≡_, refl, sym, _∙_}
 use Prim.Native.Nat.{_-_, _≤_}
 use borrow.Author.Needs.{needs}
+use Rattle.part_arm.specs.Inner.{placesIn}
 use Rattle.lists.proofs.Lists.{filled-more, filled-all, map-at}
 use Rattle.arm.proofs.Shape.{rows-length}
 use Rattle.part_arm.specs.Part.{partRow}
-use Rattle.part_arm.specs.Places.{placesIn}
 use Rattle.part_arm.proofs.rows_out.Statement.{statement}
 use Rattle.part_arm.proofs.rows_out.Tie as tie
 

@@ -5,13 +5,14 @@ use mathlib.Core.Bool.{Bool}
 use mathlib.Core.List.{List}
 use lib.Ieee.{Float, fin}
 use borrow.Author.Needs.{needs}
+use Rattle.whole_step.specs.Inner.{stepTestsOf}
 use Rattle.refusal.specs.Refusal.{unlessOf, lowerOf}
 use Rattle.floats.specs.Floats.{isFinite}
 use Rattle.arm.specs.declared.Arm.{Arm}
 use Rattle.arm.specs.HandedIn.{armRefusal}
 use Rattle.full_working.specs.Outcome.{tablesFit}
 use Rattle.whole_step.specs.declared.StepTests.{StepTests}
-use Rattle.whole_step.specs.Step.{stepRefusal, stepTestsOf}
+use Rattle.whole_step.specs.Step.{stepRefusal}
 use Rattle.whole_step.proofs.step_refusal.Statement.{statement}
 use Rattle.whole_step.proofs.step_refusal.Tie as tie
 

@@ -5,6 +5,7 @@ use mathlib.Core.Bool.{Bool}
 use native.Mathlib.Omega.{arith}
 use lib.ListN.{length, take}
 use borrow.Author.Needs.{needs}
+use Rattle.whole_step.specs.Inner.{stepTestsOf}
 use Rattle.lists.proofs.Every.{Tested, front-more, front-all}
 use Rattle.limits.specs.Limits.{linkLimit}
 use Rattle.arm.specs.declared.Arm.{Arm}
@@ -12,7 +13,7 @@ use Rattle.arm.specs.Arm.{liveLinks, linksOf}
 use Rattle.arm.specs.HandedIn.{linkAngleFits}
 use Rattle.arm.proofs.Shape.{links-length}
 use Rattle.whole_step.specs.declared.StepTests.{StepTests}
-use Rattle.whole_step.specs.Step.{linkJointFinite, stepTestsOf}
+use Rattle.whole_step.specs.Step.{linkJointFinite}
 use Rattle.whole_step.proofs.step_tests.Statement.{statement}
 use Rattle.whole_step.proofs.step_tests.Tie as tie
 
