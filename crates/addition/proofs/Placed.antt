@@ -7,6 +7,7 @@ use native.Mathlib.Omega.{arith}
 use lib.ListN.{length, take, getD, set}
 use lib.Seq.{set-set}
 use lib.Ieee.{Float}
+use Rattle.full_working.proofs.Refused.{goes-on}
 use Rattle.kinematics.specs.Inner.{turnedOut, refreshOne}
 use Rattle.arm.specs.Inner.{handedIn}
 use Rattle.limits.specs.Limits.{linkLimit, dofLimit}
@@ -24,7 +25,6 @@ use Rattle.kinematics.specs.Answers.{refreshMarked}
 use Rattle.kinematics.proofs.One.{asMarked}
 use Rattle.full_working.specs.Outcome.{out}
 use Rattle.full_working.proofs.Passed.{one-on, one-off}
-use Rattle.full_working.proofs.Refused.{accepted}
 use Rattle.one_link.proofs.One.{one-placed}
 use Rattle.addition.specs.declared.NewLink.{NewLink}
 use Rattle.addition.specs.NewLink.{linkOf, rowsFrom, rowsWith, addedInputs}
@@ -63,7 +63,7 @@ module _ (a : Arm) (whole : length (a .links) ≡ linkLimit) (t : List Float) (n
 
     pub placed-off : r .fine ≡ false → out (record { refusal = 12; arm = a }) m ≡ linkAdded a t new
     unfolding linkAdded addedInputs
-    placed-off f = one-off a (addedInputs a new) n t m r pass f ∙ accepted ek a t none _
+    placed-off f = one-off a (addedInputs a new) n t m r pass f ∙ goes-on ek a t none _
 
     pub placed-on : r .fine ≡ true → (rows : List Row) → rows ≡ rowsFrom start (new .locked) (a .rows) → (count : ℕ) → count ≡ n + 1
         → out (record {
@@ -87,4 +87,4 @@ module _ (a : Arm) (whole : length (a .links) ≡ linkLimit) (t : List Float) (n
           couplings = a .couplings;
           rows = (er ∙ ap (λ (s : ℕ). rowsFrom s (new .locked) (a .rows)) behind) i;
         })
-        ∙ accepted ek a t none _
+        ∙ goes-on ek a t none _

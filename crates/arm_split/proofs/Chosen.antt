@@ -7,6 +7,7 @@ use native.Mathlib.Omega.{arith}
 use borrow.Author.Tests.{ltb-true}
 use lib.ListN.{length, take}
 use lib.Seq.{getD-take, length-take-le}
+use Rattle.full_working.proofs.Refused.{goes-on as go-on}
 use Rattle.part_arm.specs.Inner.{placesIn}
 use Rattle.arm.proofs.Accepted.{accepted}
 use Rattle.refusal.specs.Counted.{out as mapped}
@@ -29,7 +30,6 @@ use Rattle.arm_split.proofs.Heads.{in-survives, is-in, here-read, numbe
 use Rattle.arm_split.proofs.Same.{Agree, part-same}
 use Rattle.arm_split.proofs.Refused.{Whole, accepted-whole, part-accepted, part-map}
 use Rattle.full_working.specs.Outcome.{workedAll}
-use Rattle.full_working.proofs.Refused.{accepted as go-on}
 use Rattle.arm_split.specs.Answers.{partRefusal, armPart}
 use Rattle.topology.specs.Answers.{splitAnswer}
 use lib.Ieee.{Float}

@@ -37,7 +37,7 @@ use Rattle.kinematics.proofs.Same.{every-fresh, every-tables}
 use Rattle.kinematics.proofs.Promises.{link-back}
 use Rattle.full_working.specs.Outcome.{Outcome, says, out, unlessRefused, tablesFit, workedBy, workedAll}
 use Rattle.full_working.specs.Full.{fullRefusal, fullWorking, Settled}
-use Rattle.full_working.proofs.Refused.{accepted}
+use Rattle.full_working.proofs.Refused.{goes-on}
 
 -- ---- the full pass
 
@@ -200,10 +200,8 @@ module _ (a : Arm) (sized : length (a .links) ≡ linkLimit) (t : List Float) (l
   unfolding linkFinite finiteKept finitePlace keptAt withPlace fineAfter
   finite-after j h =
       let l = linkAt (m .links) j in
-      let p = both-hold _ _ (accepted a passed .floats) in
-      let q = both-hold _ _ (p .0) in
       let x = linkAt (a .links) j in
-      let inputs = both-hold _ (finitePoint (x .shift02)) (both-hold _ (finitePoint (x .shift23)) (link-passes a sized linkFinite (q .0) j h) .0) in
+      let inputs = both-hold _ (finitePoint (x .shift02)) (both-hold _ (finitePoint (x .shift23)) (link-passes a sized linkFinite (accepted a passed .links) j h) .0) in
       let own : (jointFinite (x .joint) && finitePoint (x .centre)) ≡ true = both-hold _ (finitePose (x .world)) (inputs .0) .0 in
       let kept = both-hold _ _ (both-hold _ _ (all-at (liveLinks a) _ fine j h) .0) in
       let places = both-hold _ _ (kept .0) in
@@ -236,7 +234,7 @@ module _ (a : Arm) (sized : length (a .links) ≡ linkLimit) (t : List Float) (l
       (sym (links-again (liveLinks a) few (a .links) sized t long))
       (sym (tables-again (liveLinks a) few (a .links) sized t long))
       ∙ works after after (m .tables) long-after (fine-again (liveLinks a) few (a .links) sized t long ∙ fine)
-      ∙ accepted refl after (m .tables) not-refused-after (workedAll after after (m .tables)))
+      ∙ goes-on refl after (m .tables) not-refused-after (workedAll after after (m .tables)))
 
 -- ---- calls that end in the working of a changed arm
 

@@ -15,6 +15,6 @@ module _ {n m : ℕ} (e : n ≡ m) (a : Arm) (t : List Float) where
       go zero g = absurd (g refl)
       go (suc k) g = refl
 
-  pub accepted : n ≡ 0 → (next : Outcome) → next ≡ unlessRefused m a t next
+  pub goes-on : n ≡ 0 → (next : Outcome) → next ≡ unlessRefused m a t next
   unfolding unlessRefused
-  accepted h next = ap (λ (k : ℕ). unlessRefused k a t next) (sym h ∙ e)
+  goes-on h next = ap (λ (k : ℕ). unlessRefused k a t next) (sym h ∙ e)

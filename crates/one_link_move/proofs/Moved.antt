@@ -7,6 +7,7 @@ use native.Mathlib.Omega.{arith}
 use lib.ListN.{length, take, getD, set}
 use lib.Seq.{set-set, set-getD}
 use lib.Ieee.{Float}
+use Rattle.full_working.proofs.Refused.{goes-on}
 use Rattle.one_link_move.specs.Inner.{leaf, answered}
 use Rattle.kinematics.specs.Inner.{turnedOut, refreshOne}
 use Rattle.arm.specs.Inner.{handedIn}
@@ -28,7 +29,6 @@ use Rattle.kinematics.specs.Answers.{out as left, refreshMarked}
 use Rattle.kinematics.proofs.One.{asMarked}
 use Rattle.full_working.specs.Outcome.{out, workedBy, workedMarked}
 use Rattle.full_working.proofs.Passed.{passed-on, one-on, one-off}
-use Rattle.full_working.proofs.Refused.{accepted}
 use Rattle.one_link.proofs.One.{one-placed}
 use Rattle.one_link_move.specs.declared.Change.{Change}
 use Rattle.one_link_move.specs.Change.{changed}
@@ -52,7 +52,7 @@ module _ (a : Arm) (whole : length (a .links) ≡ linkLimit) (t : List Float) (l
   by-marks : (b : ℕ → Bool) → b ≡ marked (marks (parentsOf a) link) → (e : Edited) (m : List Float) → out e m ≡ workedMarked a (withLinks a ls) b t
       → out e m ≡ linkMoved a t link change
   unfolding linkMoved
-  by-marks b eb e m p = p ∙ (λ i. workedMarked a (moved-there a link change d new en i) (eb i) t) ∙ accepted ek a t none _
+  by-marks b eb e m p = p ∙ (λ i. workedMarked a (moved-there a link change d new en i) (eb i) t) ∙ goes-on ek a t none _
 
   -- ---- the link alone
 

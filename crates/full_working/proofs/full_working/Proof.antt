@@ -1,7 +1,7 @@
 -- `full_working`: a refusal, or every link worked out. Assumes nothing.
 use mathlib.Core.Path.{_∙_}
 use borrow.Author.Needs.{needs}
-use Rattle.full_working.proofs.Refused.{accepted, refused}
+use Rattle.full_working.proofs.Refused.{refused, goes-on}
 use Rattle.full_working.specs.Full.{fullWorking}
 use Rattle.full_working.proofs.full_working.Statement.{statement}
 use Rattle.full_working.proofs.full_working.Tie as tie
@@ -24,7 +24,7 @@ same-length-2 c = search needs
 
 returns-2 : tie.Need-returns-2
 unfolding fullWorking
-returns-2 c = c .before .before .work-all .ensures ∙ accepted (c .before .before .before .before .before .full-refusal .ensures) (c .before .before .before .before .before .before .before .before .args .arm) (c .before .before .before .before .before .before .before .before .args .tables .now) (c .before .before .before .before .if1 .left) _
+returns-2 c = c .before .before .work-all .ensures ∙ goes-on (c .before .before .before .before .before .full-refusal .ensures) (c .before .before .before .before .before .before .before .before .args .arm) (c .before .before .before .before .before .before .before .before .args .tables .now) (c .before .before .before .before .if1 .left) _
 
 pub full-working-spec : {M : Type 1} → statement M
 full-working-spec =

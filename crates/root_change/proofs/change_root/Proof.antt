@@ -7,7 +7,7 @@ use borrow.Author.Needs.{needs}
 use Rattle.planar.specs.declared.Pose.{Pose}
 use Rattle.arm.specs.declared.Arm.{Arm}
 use Rattle.full_working.specs.Outcome.{Outcome, workedAll}
-use Rattle.full_working.proofs.Refused.{accepted, refused}
+use Rattle.full_working.proofs.Refused.{refused, goes-on}
 use Rattle.root_change.specs.Root.{rootChanged, rootRefusal, changedRoot}
 use Rattle.root_change.proofs.change_root.Statement.{statement}
 use Rattle.root_change.proofs.change_root.Tie as tie
@@ -15,7 +15,7 @@ use Rattle.root_change.proofs.change_root.Tie as tie
 done : (a : Arm) (t : List Float) (locked : ℕ) (p : Pose) {k : ℕ} → k ≡ rootRefusal a t locked p → k ≡ 0 → {new : Arm} → new ≡ rootChanged a locked p → {o : Outcome} → o ≡ workedAll a new t
     → o ≡ changedRoot a t locked p
 unfolding changedRoot
-done a t locked p f h e q = q ∙ ap (λ (b : Arm). workedAll a b t) e ∙ accepted f a t h _
+done a t locked p f h e q = q ∙ ap (λ (b : Arm). workedAll a b t) e ∙ goes-on f a t h _
 
 root-refusal-requires : tie.Need-root-refusal-requires
 root-refusal-requires c κs = search needs

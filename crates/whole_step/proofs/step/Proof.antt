@@ -6,7 +6,7 @@ use lib.Ieee.{Float}
 use borrow.Author.Needs.{needs}
 use Rattle.arm.specs.declared.Arm.{Arm}
 use Rattle.full_working.specs.Outcome.{Outcome, says, workedAll}
-use Rattle.full_working.proofs.Refused.{accepted, refused}
+use Rattle.full_working.proofs.Refused.{refused, goes-on}
 use Rattle.whole_step.specs.Step.{armAfter, stepRefusal, wholeStep}
 use Rattle.whole_step.proofs.step.Statement.{statement}
 use Rattle.whole_step.proofs.step.Tie as tie
@@ -21,7 +21,7 @@ module _ (a : Arm) (t : List Float) (dt : Float) {new : Arm} (e : new ≡ armAft
 
   done : k ≡ 0 → {o : Outcome} → o ≡ workedAll a new t → o ≡ wholeStep a t dt
   unfolding wholeStep
-  done h p = p ∙ ap (λ (b : Arm). workedAll a b t) e ∙ accepted same a t h _
+  done h p = p ∙ ap (λ (b : Arm). workedAll a b t) e ∙ goes-on same a t h _
 
 step-arm-requires : tie.Need-step-arm-requires
 step-arm-requires c κs = search needs
