@@ -1,9 +1,6 @@
-mod Block
-pub mod Accepted
-pub mod Lists
-pub mod Relinked
-pub mod Settles
-pub mod Right
-pub mod Sticky
-pub mod Parents
 pub mod One
+pub mod Parents
+pub mod Relinked
+pub mod Right
+pub mod Settles
+pub mod Sticky

@@ -2,7 +2,7 @@
 use Prim.Native.Nat.{ℕ}
 use mathlib.Core.Path.{_≡_, refl, sym, ap, _∙_}
 use mathlib.Core.Bool.{Bool, true, _&&_}
-use mathlib.Core.List.{List, map}
+use mathlib.Core.List.{List}
 use lib.ListN.{length}
 use Rattle.arm.proofs.Accepted.{Accepted}
 use Rattle.arm.specs.Setters.{withLinks, withPlace}
@@ -10,52 +10,29 @@ use Rattle.lists.proofs.Every.{same-tests}
 use Rattle.lists.proofs.Lists.{same-front}
 use Rattle.lists.specs.Tests.{every}
 use Rattle.lists.proofs.Bools.{both-hold, both}
-use Rattle.masks.specs.Starts.{totalOf}
 use Rattle.planar.specs.Poses.{finitePoint}
-use Rattle.topology.specs.Parents.{parentsFit}
 use Rattle.arm.specs.declared.Link.{Link}
 use Rattle.arm.specs.declared.Arm.{Arm}
-use Rattle.arm.specs.Arm.{liveLinks, linksOf, couplingsOf, tagOf, parentOf, lockedOf, tagsOf, parentsOf, masksOf, dofCountOf, entriesTo, rowsOf, noLink, linkAt}
-use Rattle.arm.specs.HandedIn.{unique, tagsUnique, parentsEarlier, linkMasksFit, rootMaskFits, rootFits, jointFinite, linkFinite, rowsFinite, linkAngleFits}
-use Rattle.floats.specs.Floats.{allFinite}
+use Rattle.arm.specs.Arm.{liveLinks, linksOf, lockedOf, masksOf, noLink, linkAt}
+use Rattle.arm.specs.HandedIn.{jointFinite, linkFinite, linkAngleFits}
 use Rattle.kinematics.specs.Link.{finitePlace}
+use Rattle.limits.specs.Limits.{linkLimit}
+use Rattle.arm.proofs.Relinked.{standing, still-accepted}
 use Rattle.kinematics.proofs.Store.{blank}
 
 module _ (a : Arm) (ls : List Link) (l : length ls ≡ length (a .links)) (e : (j : ℕ) → blank (linkAt ls j) ≡ blank (linkAt (a .links) j)) where
   of-blank : {B : Type 0} (f : Link → B) → ((x : Link) → f (blank x) ≡ f x) → (j : ℕ) → f (linkAt ls j) ≡ f (linkAt (a .links) j)
   of-blank f h j = sym (h (linkAt ls j)) ∙ ap f (e j) ∙ h (linkAt (a .links) j)
 
-  pub same-tags : tagsOf (withLinks a ls) ≡ tagsOf a
-  unfolding tagsOf linksOf withPlace
-  same-tags = same-front tagOf noLink (liveLinks a) ls (a .links) l (of-blank tagOf (λ x. refl))
-
-  pub same-parents : parentsOf (withLinks a ls) ≡ parentsOf a
-  unfolding parentsOf linksOf withPlace
-  same-parents = same-front parentOf noLink (liveLinks a) ls (a .links) l (of-blank parentOf (λ x. refl))
-
   pub same-masks : masksOf (withLinks a ls) ≡ masksOf a
   unfolding masksOf linksOf withPlace
   same-masks = same-front lockedOf noLink (liveLinks a) ls (a .links) l (of-blank lockedOf (λ x. refl))
 
-  same-rows : rowsOf (withLinks a ls) ≡ rowsOf a
-  unfolding rowsOf dofCountOf
-  same-rows = ap (λ (ms : List ℕ). map (entriesTo (totalOf ms)) (a .rows)) same-masks
-
-  pub relinked : Accepted a → every linkFinite (linksOf (withLinks a ls)) ≡ true → Accepted (withLinks a ls)
-  unfolding tagsUnique parentsEarlier rootFits rowsFinite couplingsOf linksOf withPlace
-  relinked k h = record {
-    counts = k .counts;
-    tags = ap unique same-tags ∙ k .tags;
-    parents = ap parentsFit same-parents ∙ k .parents;
-    coupled = k .coupled;
-    masks = same-tests linkMasksFit noLink (liveLinks a) ls (a .links) l (of-blank linkMasksFit (λ x. refl)) ∙ k .masks;
-    root = ap rootMaskFits same-masks ∙ k .root;
-    axes = k .axes;
-    links = h;
-    couplings = k .couplings;
-    rows = ap (every allFinite) same-rows ∙ k .rows;
-    angles = same-tests linkAngleFits noLink (liveLinks a) ls (a .links) l (of-blank linkAngleFits (λ x. refl)) ∙ k .angles;
-  }
+  pub relinked : length (a .links) ≡ linkLimit → Accepted a → every linkFinite (linksOf (withLinks a ls)) ≡ true → Accepted (withLinks a ls)
+  unfolding linksOf withPlace
+  relinked sized k h =
+      still-accepted a sized ls (l ∙ sized) (λ j _. of-blank standing (λ x. refl) j) k h
+      (same-tests linkAngleFits noLink (liveLinks a) ls (a .links) l (of-blank linkAngleFits (λ x. refl)) ∙ k .angles)
 
 -- a link whose inputs and results are finite
 abbrev linkInputs : Link → Bool

@@ -14,6 +14,7 @@ use Rattle.arm.proofs.Accepted.{Accepted, accepted, not-refused}
 use Rattle.arm.specs.Setters.{withLinks, withPlace}
 use Rattle.lists.proofs.Lists.{same-map}
 use Rattle.lists.proofs.Parts.{block-front, replicated}
+use Rattle.lists.specs.Tests.{every}
 use Rattle.lists.proofs.Every.{every-at, every-of}
 use Rattle.lists.proofs.Numbers.{all-at, all-below}
 use Rattle.lists.proofs.Bools.{both-hold}
@@ -27,7 +28,6 @@ use Rattle.arm.specs.declared.Link.{Link}
 use Rattle.arm.specs.declared.Arm.{Arm}
 use Rattle.arm.specs.Arm.{liveLinks, linksOf, noLink, linkAt, lockedOf}
 use Rattle.arm.specs.HandedIn.{linkFinite, armRefusal}
-use Rattle.arm.specs.HandedIn as tests
 use Rattle.kinematics.specs.Blocks.{blockAt, zeroBlock}
 use Rattle.kinematics.specs.Link.{finitePlace, finiteKept}
 use Rattle.kinematics.specs.State.{State, state, inputsOf, keptAt, keptOps, stateAfter, fineAfter, cleared, parentAt, everyLink}
@@ -145,7 +145,7 @@ module _ (a : Arm) (sized : length (a .links) ≡ linkLimit) (t : List Float) (f
   place-finite j e = both-hold _ _ e .0
 
   module _ (ok : Accepted a) (f : allFine a t ≡ true) where
-    links-finite : tests.every linkFinite (linksOf (withLinks a (s .links))) ≡ true
+    links-finite : every linkFinite (linksOf (withLinks a (s .links))) ≡ true
     unfolding linksOf
     links-finite =
         let m : liveLinks a ≡ n = omega arith in
@@ -158,7 +158,7 @@ module _ (a : Arm) (sized : length (a .links) ≡ linkLimit) (t : List Float) (f
         (place-finite j (fine-at f j (omega arith))))
 
     pub ok-after : Accepted (withLinks a (s .links))
-    ok-after = relinked a (s .links) (good .0 ∙ sym sized) (after-blank ls n everyLink (cleared t)) ok links-finite
+    ok-after = relinked a (s .links) (good .0 ∙ sym sized) (after-blank ls n everyLink (cleared t)) sized ok links-finite
 
     fresh : (j : ℕ) → j < n → Fresh (s .links) (s .tables) j
     fresh j h = all-fresh ls n (cleared t) fits j h ∙ sym (blank-result (s .links) ls (good .0 ∙ sym sized) (after-blank ls n everyLink (cleared t)) s j)
