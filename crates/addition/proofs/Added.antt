@@ -10,6 +10,8 @@ use lib.Dec.{eqb, ltb, leb}
 use lib.ListN.{length, take, drop, getD, set, length-map, length-append, length-replicate, length-drop, List·getD-append}
 use lib.Seq.{take-suc-set, getD-at}
 use lib.Ieee.{Float}
+use Rattle.multibody_joint.specs.Joint.{newJoint}
+use Rattle.arm.specs.Setters.{unplaced}
 use Rattle.arm.proofs.Accepted.{Accepted}
 use Rattle.arm.specs.Inner.{rowFinite}
 use Rattle.lists.proofs.Modified.{modify-every}
@@ -123,17 +125,17 @@ module _ (a : Arm) (sized : length (a .links) ≡ linkLimit) (t : List Float) (n
   count-length = links-live a sized ∙ live
 
   tags : tagsUnique (addedInputs a new) ≡ true
-  unfolding tagsUnique tagsOf linkOf
+  unfolding tagsUnique tagsOf linkOf unplaced newJoint
   tags = ap unique (mapped tagOf) ∙ unique-snoc (tagsOf a) (new .tag) (ok .tags) (k .tag)
 
   parents : parentsEarlier (addedInputs a new) ≡ true
-  unfolding parentsEarlier parentsOf linkOf
+  unfolding parentsEarlier parentsOf linkOf unplaced newJoint
   parents =
       ap parentsFit (mapped parentOf)
       ∙ fits-snoc (parentsOf a) (new .parent) (ok .parents) (ap (λ (i : ℕ). parentFits i (new .parent)) (length-map (linksOf a) parentOf ∙ count-length) ∙ k .parent)
 
   masks : linkMasksFit (linkOf new) ≡ true
-  unfolding jointMasksFit linkOf
+  unfolding jointMasksFit linkOf unplaced newJoint
   masks = are-masks n new (k .masks)
 
   root-mask : (i : ℕ) → i ≡ 0 → masksFit i new ≡ true → (eqb (new .locked) 7 || eqb (new .locked) 0) ≡ true
@@ -142,7 +144,7 @@ module _ (a : Arm) (sized : length (a .links) ≡ linkLimit) (t : List Float) (n
   root-mask (suc i) h e = absurd (omega arith)
 
   root : rootFits (addedInputs a new) ≡ true
-  unfolding rootFits masksOf linkOf
+  unfolding rootFits masksOf linkOf unplaced newJoint
   root = ap rootMaskFits (mapped lockedOf) ∙ root-snoc (masksOf a) (new .locked) (ok .root) (λ z. root-mask n (sym (masks-live a sized ∙ live) ∙ z) (k .masks))
 
   -- ---- its rows
@@ -154,7 +156,7 @@ module _ (a : Arm) (sized : length (a .links) ≡ linkLimit) (t : List Float) (n
   m = dofsOf (new .locked)
 
   pub dofs-added : dofCountOf (addedInputs a new) ≡ dofCountOf a + dofsOf (new .locked)
-  unfolding dofCountOf masksOf linkOf
+  unfolding dofCountOf masksOf linkOf unplaced newJoint
   dofs-added = ap totalOf (mapped lockedOf) ∙ total-snoc (masksOf a) (new .locked)
 
   zeroed : (rows : List Row) → every (rowFinite d) rows ≡ true → every (rowFinite (d + m)) (map (entriesSet d m zeros) rows) ≡ true

@@ -10,6 +10,7 @@ use lib.Dec.{eqb}
 use lib.ListN.{length, getD, set, take, length-set, length-map, List·getD-map}
 use lib.Seq.{getD-set-other, take-set-le, length-take-le}
 use lib.Ieee.{Float}
+use Rattle.one_link.specs.Promise.{Right}
 use Rattle.arm.specs.Sized.{Sized}
 use Rattle.lists.proofs.Parts.{with-length}
 use Rattle.lists.proofs.Modified.{length-modify, modify-same, modify-other}

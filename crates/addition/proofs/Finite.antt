@@ -8,6 +8,8 @@ use lib.Dec.{eqb}
 use lib.ListN.{length, take, drop}
 use lib.Seq.{take-at, length-take-le}
 use lib.Ieee.{Float, binary32, ofBits, ofFields, lt}
+use Rattle.multibody_joint.specs.Joint.{newJoint}
+use Rattle.arm.specs.Setters.{unplaced}
 use Rattle.arm.specs.Inner.{rowFinite}
 use Rattle.lists.proofs.Every.{every-drop, every-join, every-take}
 use Rattle.lists.specs.Lists.{laid}
@@ -55,14 +57,14 @@ unfolding finitePose finitePoint translationOf
 identity-finite = both identity-turn (both zero-finite zero-finite)
 
 pub link-finite : (new : NewLink) → floatsFinite new ≡ true → linkFinite (linkOf new) ≡ true
-unfolding linkFinite jointFinite linkOf floatsFinite
+unfolding linkFinite jointFinite linkOf floatsFinite unplaced newJoint
 link-finite new e =
     let p = both-hold (finitePose (new .frame1) && finitePose (new .frame2)) (finitePoint (new .centre)) e in
     let joint = both (both (both (both (p .0) zeros-finite) identity-turn) zeros-finite) zeros-finite in
     both (both (both (both joint (p .1)) identity-finite) origin-finite) origin-finite
 
 pub link-within : (new : NewLink) → linkAngleFits (linkOf new) ≡ true
-unfolding linkOf angleFits isBeyond lt ofBits ofFields
+unfolding linkOf angleFits isBeyond lt ofBits ofFields unplaced newJoint
 link-within new = refl
 
 -- ---- lists

@@ -25,7 +25,7 @@ use arm::live_links;
 use arm::row_number;
 use arm::start_among;
 use arm::unplaced_link;
-use floats::copy;
+use floats::copy_part;
 use kinematics::refresh_one;
 use limits::LINKS;
 use limits::fewer;
@@ -39,7 +39,7 @@ use planar::is_finite_point;
 use planar::is_finite_pose;
 use planar::is_turn;
 use planar::rotation_of;
-use refusal::lower;
+use refusal::lowest;
 use refusal::unless;
 use one_link::is_finite_above;
 use topology::parent_fits;
@@ -98,25 +98,17 @@ fn add_refusal(arm: Arm, handed: HandedIn, tables: &[f32], new: NewLink) -> u8
     let n = arm.link_count;
     let tags = handed.tags;
     let above = is_finite_above(n, new.parent, tables);
-    lower(
+    let refusals = [
         unless(tables_fit(tables), 1),
-        lower(
-            unless(n < LINKS, 2),
-            lower(
-                unless(is_new_tag(tags, n, new.tag), 3),
-                lower(
-                    unless(parent_fits(n, new.parent as usize), 4),
-                    lower(
-                        unless(masks_fit(n, new), 5),
-                        lower(
-                            unless(is_finite_new(new) & above, 7),
-                            lower(unless(turns_fit(new), 8), handed.refusal),
-                        ),
-                    ),
-                ),
-            ),
-        ),
-    )
+        unless(n < LINKS, 2),
+        unless(is_new_tag(tags, n, new.tag), 3),
+        unless(parent_fits(n, new.parent as usize), 4),
+        unless(masks_fit(n, new), 5),
+        unless(is_finite_new(new) & above, 7),
+        unless(turns_fit(new), 8),
+        handed.refusal,
+    ];
+    lowest(&refusals)
 }
 
 // ---- The new link
@@ -154,8 +146,7 @@ fn with_entries(row: Row, start: usize, n: usize, values: [f32; 3]) -> Row
     ensures { λ r. ⌜ r ≡ entriesSet start n values row ⌝ }
 {
     let mut entries = row.entries;
-    let end = start + n;
-    copy(&mut entries[start..end], &values[0..n]);
+    copy_part(&mut entries, start, &values, 0, n);
     Row { entries }
 }
 

@@ -5,6 +5,7 @@ use mathlib.Core.Bool.{Bool, true, false}
 use mathlib.Core.List.{[]}
 use native.Mathlib.Omega.{arith}
 use lib.ListN.{length, getD, replicate, length-map, length-replicate, getD-replicate}
+use Rattle.arm.specs.Setters.{unplaced}
 use Rattle.arm.specs.Empty.{blankLink, blankCoupling, blankRow, emptyArm}
 use Rattle.lists.proofs.Gathered.{length-laid, length-chosen, chosen-le}
 use Rattle.lists.specs.Numbers.{chosen}
@@ -12,7 +13,7 @@ use Rattle.lists.proofs.Lists.{map-at}
 use Rattle.lists.proofs.Numbers.{count-at}
 use Rattle.limits.specs.Limits.{linkLimit, couplingLimit, dofLimit}
 use Rattle.floats.specs.Floats.{zero32}
-use Rattle.multibody_joint.specs.Joint.{fixedJoint}
+use Rattle.multibody_joint.specs.Joint.{fixedJoint, newJoint}
 use Rattle.topology.specs.declared.Split.{Split}
 use Rattle.arm.specs.declared.Link.{Link}
 use Rattle.arm.specs.declared.Arm.{Arm}
@@ -33,12 +34,12 @@ chosen-holds P n pick f d h i l =
     subst P (sym (ap (λ (k : ℕ). getD (chosen n pick f) k d) (sym (r .3)) ∙ chosen-at pick f n (r .0) d (r .1) (r .2))) (h (r .0) (r .1))
 
 new-three : (head : Bool) (parent : ℕ) (l : Link) → coordinates l ≡ 3 → coordinates (newLink head parent l) ≡ 3
-unfolding newLink fixedJoint
+unfolding newLink fixedJoint newJoint
 new-three true parent l e = refl
 new-three false parent l e = e
 
 pub blank-shaped : Shaped emptyArm
-unfolding emptyArm blankLink fixedJoint
+unfolding emptyArm unplaced fixedJoint newJoint
 blank-shaped = record {
   sized = record {
     links = length-replicate linkLimit blankLink;

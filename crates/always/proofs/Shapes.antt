@@ -20,7 +20,7 @@ use Rattle.limits.specs.Limits.{linkLimit, dofLimit}
 use Rattle.floats.specs.Floats.{zero32}
 use Rattle.planar.specs.declared.Pose.{Pose}
 use Rattle.planar.specs.Rotation.{rotationAt}
-use Rattle.multibody_joint.specs.Joint.{withMotion, freeJoint, fixedJoint, freePosSet, withFrames}
+use Rattle.multibody_joint.specs.Joint.{withMotion, freeJoint, fixedJoint, freePosSet, withFrames, newJoint}
 use Rattle.multibody_joint.specs.Motion.{integrated}
 use Rattle.arm.specs.declared.Link.{Link}
 use Rattle.arm.specs.declared.Row.{Row}
@@ -188,7 +188,7 @@ root-row from to r e = go (eqb from to) (eqb to 0)
     go false false = length-append (drop 3 (r .entries)) (replicate 3 zero32) ∙ omega (arith, length-drop 3 (r .entries))
 
 root-three : (locked : ℕ) (pose : Pose) (l : Link) → coordinates l ≡ 3 → coordinates (rootLink locked pose l) ≡ 3
-unfolding rootLink rootJoint freePosSet withFrames freeJoint fixedJoint
+unfolding rootLink rootJoint freePosSet withFrames freeJoint fixedJoint newJoint
 root-three locked pose l e = go (eqb (l .joint .locked) locked) (eqb locked 0)
   where
     go : (s f : Bool) → length (cond s (cond f (freePosSet (l .joint) pose) (withFrames (l .joint) pose)) (cond f (freeJoint pose) (fixedJoint pose)) .coordinates) ≡ 3

@@ -36,7 +36,7 @@ use Rattle.topology.proofs.Theorems.{with-parent, in-part}
 use Rattle.planar.specs.declared.Pose.{Pose}
 use Rattle.planar.specs.Rotation.{isBeyond}
 use Rattle.planar.specs.Poses.{finiteRotation, finitePoint, finitePose, rotationOf, translationOf}
-use Rattle.multibody_joint.specs.Joint.{fixedJoint}
+use Rattle.multibody_joint.specs.Joint.{fixedJoint, newJoint}
 use Rattle.arm.specs.declared.Link.{Link}
 use Rattle.arm.specs.declared.Coupling.{Coupling}
 use Rattle.arm.specs.declared.Row.{Row}
@@ -69,16 +69,16 @@ unfolding newLink
 head-parent parent l = refl
 
 head-locked : (parent : ℕ) (l : Link) → newLink true parent l .joint .locked ≡ 7
-unfolding newLink fixedJoint
+unfolding newLink fixedJoint newJoint
 head-locked parent l = refl
 
 new-masks : (b : Bool) (parent : ℕ) (l : Link) → linkMasksFit l ≡ true → linkMasksFit (newLink b parent l) ≡ true
-unfolding newLink fixedJoint jointMasksFit
+unfolding newLink fixedJoint jointMasksFit newJoint
 new-masks true parent l e = refl
 new-masks false parent l e = e
 
 fixed-finite : (p : Pose) → finitePose p ≡ true → jointFinite (fixedJoint p) ≡ true
-unfolding fixedJoint jointFinite finiteRotation finitePoint finitePose rotationOf translationOf ofBits
+unfolding fixedJoint jointFinite finiteRotation finitePoint finitePose rotationOf translationOf ofBits newJoint
 fixed-finite p e = both (both (both (both (both e refl) refl) refl) refl) refl
 
 new-finite : (b : Bool) (parent : ℕ) (l : Link) → linkFinite l ≡ true → linkFinite (newLink b parent l) ≡ true
@@ -92,7 +92,7 @@ new-finite true parent l e =
 new-finite false parent l e = e
 
 new-angle : (b : Bool) (parent : ℕ) (l : Link) → linkAngleFits l ≡ true → linkAngleFits (newLink b parent l) ≡ true
-unfolding newLink fixedJoint angleFits isBeyond lt ofBits
+unfolding newLink fixedJoint angleFits isBeyond lt ofBits newJoint
 new-angle true parent l e = refl
 new-angle false parent l e = e
 

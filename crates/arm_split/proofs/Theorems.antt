@@ -16,7 +16,7 @@ use Rattle.masks.specs.Masks.{dofsOf}
 use Rattle.masks.specs.Starts.{totalOf, startOf}
 use Rattle.masks.proofs.Totals.{start-in, total-join}
 use Rattle.masks.proofs.Laws.{fixed-dofs}
-use Rattle.multibody_joint.specs.Joint.{fixedJoint}
+use Rattle.multibody_joint.specs.Joint.{fixedJoint, newJoint}
 use Rattle.arm.specs.declared.Link.{Link}
 use Rattle.arm.specs.declared.Arm.{Arm}
 use Rattle.arm.specs.Arm.{liveLinks, lockedOf, masksOf, maskAt, startAt, dofCountOf, linkAt, noLink}
@@ -47,7 +47,7 @@ settles a s k t sized r =
 
 -- one link's DoFs in the part: a head's are none
 new-dofs : (here head : Bool) (parent : ℕ) (l : Link) → totalOf (cond here (lockedOf (newLink head parent l) ∷ []) []) ≡ totalOf (cond (here && not head) (lockedOf l ∷ []) [])
-unfolding totalOf newLink fixedJoint
+unfolding totalOf newLink fixedJoint newJoint
 new-dofs true true parent l = omega (arith, fixed-dofs)
 new-dofs true false parent l = refl
 new-dofs false head parent l = refl

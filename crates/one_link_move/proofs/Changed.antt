@@ -155,7 +155,7 @@ coordinate-angle axis value j w h = go (ltb 2 axis)
 
 -- a link with another joint and centre of mass
 inputs-finite : (l : Link) (joint : Joint) (centre : Point) → linkFinite l ≡ true → (jointFinite (l .joint) ≡ true → jointFinite joint ≡ true) → (finitePoint (l .centre) ≡ true → finitePoint centre ≡ true)
-    → linkFinite (withInputs l joint centre) ≡ true
+    → linkFinite (withInputs l (l .parent) joint centre) ≡ true
 unfolding linkFinite
 inputs-finite l joint centre h f g =
     let p₄ = both-hold _ _ h in

@@ -11,6 +11,7 @@ use borrow.Author.Tests.{ltb-true}
 use lib.Dec.{ltb}
 use lib.ListN.{length}
 use lib.Ieee.{Float}
+use Rattle.one_link.specs.Promise.{Right}
 use Rattle.arm.specs.Setters.{withLinks}
 use Rattle.lists.proofs.Every.{same-tests}
 use Rattle.lists.proofs.Lists.{same-map, same-front}

@@ -4,7 +4,7 @@ use mathlib.Core.Bool.{cond}
 use lib.Dec.{eqb, ltb}
 use lib.ListN.{set}
 use lib.Ieee.{Float}
-use Rattle.arm.specs.Setters.{withLinks}
+use Rattle.arm.specs.Setters.{withLinks, withJoint}
 use Rattle.lists.specs.Lists.{modify}
 use Rattle.planar.specs.Rotation.{rotationAt}
 use Rattle.multibody_joint.specs.declared.Joint.{Joint}

@@ -39,7 +39,7 @@ use planar::is_finite_pose;
 use planar::is_turn;
 use planar::rotation_at;
 use planar::rotation_of;
-use refusal::lower;
+use refusal::lowest;
 use refusal::unless;
 use one_link::is_finite_above;
 use topology::at_or_below;
@@ -121,25 +121,17 @@ fn move_refusal(arm: Arm, handed: HandedIn, tables: &[f32], link: u32, change: C
     let tests = change_tests(mask_among(masks, arm.link_count, at), change);
     let parent = parent_among(parents, arm.link_count, at);
     let above = is_finite_above(at, parent as u32, tables);
-    lower(
+    let refusals = [
         unless(tables_fit(tables), 1),
-        lower(
-            unless(at < arm.link_count, 4),
-            lower(
-                unless(tests.axis, 5),
-                lower(
-                    unless(tests.free, 6),
-                    lower(
-                        unless(tests.floats & above, 7),
-                        lower(
-                            unless(tests.turns, 8),
-                            lower(unless(tests.angle, 9), handed.refusal),
-                        ),
-                    ),
-                ),
-            ),
-        ),
-    )
+        unless(at < arm.link_count, 4),
+        unless(tests.axis, 5),
+        unless(tests.free, 6),
+        unless(tests.floats & above, 7),
+        unless(tests.turns, 8),
+        unless(tests.angle, 9),
+        handed.refusal,
+    ];
+    lowest(&refusals)
 }
 
 // ---- What it sets

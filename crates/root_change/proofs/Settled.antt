@@ -30,7 +30,7 @@ use Rattle.planar.specs.declared.Pose.{Pose}
 use Rattle.planar.specs.Rotation.{isBeyond}
 use Rattle.planar.specs.Poses.{rotationOf, translationOf, isTurn, finiteRotation, finitePoint, finitePose}
 use Rattle.multibody_joint.specs.declared.Joint.{Joint}
-use Rattle.multibody_joint.specs.Joint.{freeJoint, fixedJoint, freePosSet, withFrames}
+use Rattle.multibody_joint.specs.Joint.{freeJoint, fixedJoint, freePosSet, withFrames, newJoint}
 use Rattle.arm.specs.declared.Link.{Link}
 use Rattle.arm.specs.declared.Row.{Row}
 use Rattle.arm.specs.declared.Arm.{Arm}
@@ -77,7 +77,7 @@ kinds locked k = go (eqb locked 7) refl (eqb locked 0) refl k
     go false e false f h = absurd (true≢false (sym h))
 
 pub root-locked : (locked : ℕ) (p : Pose) (j : Joint) → Kind locked → rootJoint locked p j .locked ≡ locked
-unfolding rootJoint freePosSet withFrames freeJoint fixedJoint
+unfolding rootJoint freePosSet withFrames freeJoint fixedJoint newJoint
 root-locked locked p j k = go (eqb (j .locked) locked) refl (eqb locked 0) refl
   where
     go : (s : Bool) → eqb (j .locked) locked ≡ s → (f : Bool) → eqb locked 0 ≡ f
@@ -89,15 +89,15 @@ root-locked locked p j k = go (eqb (j .locked) locked) refl (eqb locked 0) refl
 
 module _ (locked : ℕ) (p : Pose) (j : Joint) where
   masks-fit : jointMasksFit j ≡ true → jointMasksFit (rootJoint locked p j) ≡ true
-  unfolding jointMasksFit freePosSet withFrames freeJoint fixedJoint
+  unfolding jointMasksFit freePosSet withFrames freeJoint fixedJoint newJoint
   masks-fit h = by-type (λ (k : Joint). jointMasksFit k ≡ true) locked p j h h refl refl
 
   angle-stays : angleFits j ≡ true → angleFits (rootJoint locked p j) ≡ true
-  unfolding angleFits isBeyond lt ofBits freePosSet withFrames freeJoint fixedJoint
+  unfolding angleFits isBeyond lt ofBits freePosSet withFrames freeJoint fixedJoint newJoint
   angle-stays h = by-type (λ (k : Joint). angleFits k ≡ true) locked p j h h refl refl
 
   finite-stays : length (j .coordinates) ≡ 3 → finitePose p ≡ true → jointFinite j ≡ true → jointFinite (rootJoint locked p j) ≡ true
-  unfolding jointFinite finitePose finiteRotation finitePoint rotationOf translationOf ofBits freePosSet withFrames freeJoint fixedJoint
+  unfolding jointFinite finitePose finiteRotation finitePoint rotationOf translationOf ofBits freePosSet withFrames freeJoint fixedJoint newJoint
   finite-stays three f h =
       let turn = both-hold (isFinite (p .re) && isFinite (p .im)) (isFinite (p .x) && isFinite (p .y)) f in
       let place = both-hold (isFinite (p .x)) (isFinite (p .y)) (turn .1) in
@@ -120,7 +120,7 @@ module _ (locked : ℕ) (p : Pose) (j : Joint) where
       third (x ∷ y ∷ z ∷ xs) l e = both-hold (isFinite z) _ (both-hold (isFinite y) _ (both-hold (isFinite x) _ e .1) .1) .0
 
   three-stay : length (j .coordinates) ≡ 3 → length (rootJoint locked p j .coordinates) ≡ 3
-  unfolding freePosSet withFrames freeJoint fixedJoint
+  unfolding freePosSet withFrames freeJoint fixedJoint newJoint
   three-stay h = by-type (λ (k : Joint). length (k .coordinates) ≡ 3) locked p j refl h refl refl
 
 -- ---- a row

@@ -64,8 +64,7 @@ module _ (a : Arm) (sized : length (a .links) ≡ linkLimit) (dt : Float) where
     unfolding armAfter linkFinite linkAfter linkIntegrated
     finite-after j h =
         let x = linkAt (a .links) j in
-        let p = both-hold _ _ (both-hold _ _ (accepted a old .floats) .0) in
-        let f23 = both-hold _ (finitePoint (x .shift23)) (link-passes a sized linkFinite (p .0) j h) in
+        let f23 = both-hold _ (finitePoint (x .shift23)) (link-passes a sized linkFinite (accepted a old .links) j h) in
         let f02 = both-hold _ (finitePoint (x .shift02)) (f23 .0) in
         let fw = both-hold _ (finitePose (x .world)) (f02 .0) in
         let fc = both-hold (jointFinite (x .joint)) (finitePoint (x .centre)) (fw .0) in

@@ -21,7 +21,7 @@ use masks::dofs;
 use multibody_joint::Joint;
 use multibody_joint::integrate;
 use planar::is_beyond;
-use refusal::lower;
+use refusal::lowest;
 use refusal::unless;
 use full_working::tables_fit;
 use full_working::work_all;
@@ -98,16 +98,14 @@ fn step_refusal(arm: Arm, new: Arm, tables: &[f32], dt: f32) -> u8
     ensures { λ r. ⌜ r ≡ stepRefusal arm new (now (tables .entry)) dt ⌝ }
 {
     let tests = step_tests(new);
-    lower(
+    let refusals = [
         unless(tables_fit(tables), 1),
-        lower(
-            unless(finite(dt), 7),
-            lower(
-                unless(tests.angles, 9),
-                lower(arm_refusal(arm), unless(tests.floats, 12)),
-            ),
-        ),
-    )
+        unless(finite(dt), 7),
+        unless(tests.angles, 9),
+        arm_refusal(arm),
+        unless(tests.floats, 12),
+    ];
+    lowest(&refusals)
 }
 
 // Every joint is integrated by dt, and all of the tables are rewritten.

@@ -1,6 +1,7 @@
--- `step_arm`: the row that is read is that of the velocities. Assumes nothing.
-use borrow.Author.Needs.{needs}
+-- `step_arm`: the arm with the links that the velocities' row gives. Assumes nothing.
+use mathlib.Core.Path.{_∙_}
 use Rattle.whole_step.proofs.Links.{stepped}
+use borrow.Author.Needs.{needs}
 use Rattle.whole_step.proofs.step_arm.Statement.{statement}
 use Rattle.whole_step.proofs.step_arm.Tie as tie
 
@@ -16,8 +17,11 @@ element-copy-out-velocities c = search needs
 step-links-requires : tie.Need-step-links-requires
 step-links-requires c κs = search needs
 
+with-links-requires : tie.Need-with-links-requires
+with-links-requires c κs = search needs
+
 returns : tie.Need-returns
-returns c = stepped (c .before .before .before .before .before .args .t1) _ _ _ (c .before .before .before .before .row-number .ensures) (c .before .before .step-links .ensures)
+returns c = let s = c .before .before .before .before in c .with-links .ensures ∙ stepped (s .args .t1) _ _ _ (c .before .before .before .row-number .ensures) (c .before .step-links .ensures)
 
 pub step-arm-spec : {M : Type 1} → statement M
 step-arm-spec =
@@ -27,4 +31,5 @@ step-arm-spec =
     mul-velocities
     element-copy-out-velocities
     step-links-requires
+    with-links-requires
     returns)
