@@ -1,15 +1,13 @@
 -- What is set of an arm for a new link: its row entries and its mark. Assumes nothing.
-use Prim.Native.Nat.{ℕ, _+_, _-_, _≤_, _<_}
+use Prim.Native.Nat.{ℕ, _+_, _≤_, _<_}
 use mathlib.Core.Path.{_≡_, ap, _∙_}
-use mathlib.Core.List.{List, _++_, map}
+use mathlib.Core.List.{List, map}
 use native.Mathlib.Omega.{arith}
-use native.Mathlib.Nat.{sub-zero}
 use borrow.Author.Tests.{le-leb}
-use lib.ListN.{length, getD, set, take, drop, length-map}
-use lib.Seq.{length-take-le}
+use lib.ListN.{length, getD, set, take, length-map}
 use lib.Ieee.{Float}
-use Rattle.floats.specs.Inner.{overlaid}
-use Rattle.floats.proofs.Parts.{copied-in}
+use Rattle.floats.specs.Inner.{copiedPart}
+use Rattle.floats.proofs.Parts.{copied-fits}
 use Rattle.lists.proofs.Modified.{set-modify}
 use Rattle.lists.proofs.Lists.{filled-all}
 use Rattle.lists.specs.Lists.{laid, modify}
@@ -44,12 +42,9 @@ module _ (mask : ℕ) (h : mask ≤ 7) where
 -- ---- a row's entries
 
 pub entries-set : (row : Row) (start n : ℕ) (values z : List Float) → start + n ≤ length (row .entries) → n ≤ length values
-    → z ≡ overlaid (take ((start + n) - start) (drop start (row .entries))) (take (n - 0) values)
-    → _≡_ {A = Row} (record { entries = take start (row .entries) ++ (z ++ drop ((start + n) - start) (drop start (row .entries))) }) (entriesSet start n values row)
+    → z ≡ copiedPart start 0 n (row .entries) values → _≡_ {A = Row} (record { entries = z }) (entriesSet start n values row)
 unfolding entriesSet
-entries-set row start n values z h l e =
-    ap (λ (s : List Float). record { entries = s })
-    (copied-in start n (row .entries) (take n values) z h (length-take-le n values l) (e ∙ ap (λ (k : ℕ). overlaid (take ((start + n) - start) (drop start (row .entries))) (take k values)) (sub-zero n)))
+entries-set row start n values z h l e = ap (λ (s : List Float). record { entries = s }) (e ∙ copied-fits start 0 n (row .entries) values h (omega arith))
 
 -- ---- the rows
 

@@ -13,6 +13,7 @@ use Rattle.arm.specs.Inner.{handedIn}
 use Rattle.limits.specs.Limits.{linkLimit, dofLimit}
 use Rattle.masks.specs.Starts.{startOf}
 use Rattle.arm.specs.declared.Arm.{Arm}
+use Rattle.arm.specs.Setters.{armWith}
 use Rattle.arm.specs.declared.HandedIn.{HandedIn}
 use Rattle.arm.specs.declared.Link.{Link}
 use Rattle.arm.specs.declared.Row.{Row}
@@ -66,25 +67,10 @@ module _ (a : Arm) (whole : length (a .links) ≡ linkLimit) (t : List Float) (n
     placed-off f = one-off a (addedInputs a new) n t m r pass f ∙ goes-on ek a t none _
 
     pub placed-on : r .fine ≡ true → (rows : List Row) → rows ≡ rowsFrom start (new .locked) (a .rows) → (count : ℕ) → count ≡ n + 1
-        → out (record {
-          refusal = 0;
-          arm = record {
-            «link_count» = count;
-            «coupling_count» = a .«coupling_count»;
-            links = set (a .links) n (r .link);
-            couplings = a .couplings;
-            rows = rows;
-          };
-        }) m
-        ≡ linkAdded a t new
+        → out (record { refusal = 0; arm = armWith a count (a .«coupling_count») (set (a .links) n (r .link)) (a .couplings) rows }) m ≡ linkAdded a t new
     unfolding linkAdded addedInputs rowsWith
     placed-on f rows er count ec =
         one-on a (addedInputs a new) n t m r pass f _
-        (λ i. record {
-          «link_count» = ec i;
-          «coupling_count» = a .«coupling_count»;
-          links = sym (set-set (a .links) n (linkOf new) (r .link)) i;
-          couplings = a .couplings;
-          rows = (er ∙ ap (λ (s : ℕ). rowsFrom s (new .locked) (a .rows)) behind) i;
-        })
+        (λ i. armWith a (ec i) (a .«coupling_count») (sym (set-set (a .links) n (linkOf new) (r .link)) i) (a .couplings)
+        ((er ∙ ap (λ (s : ℕ). rowsFrom s (new .locked) (a .rows)) behind) i))
         ∙ goes-on ek a t none _

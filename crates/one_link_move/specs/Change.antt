@@ -4,11 +4,11 @@ use mathlib.Core.Bool.{cond}
 use lib.Dec.{eqb, ltb}
 use lib.ListN.{set}
 use lib.Ieee.{Float}
-use Rattle.arm.specs.Setters.{withLinks, withJoint}
+use Rattle.arm.specs.Setters.{withLinks, withInputs, withJoint}
 use Rattle.lists.specs.Lists.{modify}
 use Rattle.planar.specs.Rotation.{rotationAt}
 use Rattle.multibody_joint.specs.declared.Joint.{Joint}
-use Rattle.multibody_joint.specs.Joint.{withMotion}
+use Rattle.multibody_joint.specs.Joint.{withFrames, withMotion}
 use Rattle.arm.specs.declared.Link.{Link}
 use Rattle.arm.specs.declared.Arm.{Arm}
 use Rattle.one_link_move.specs.declared.Change.{Change}
