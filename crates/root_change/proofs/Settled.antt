@@ -6,12 +6,12 @@ use mathlib.Core.Bool.{Bool, true, false, cond, _&&_, _||_, true≢false}
 use mathlib.Core.Logic.{_⊎_, inl, inr}
 use mathlib.Core.List.{List, [], _∷_, _++_, map}
 use native.Mathlib.Omega.{arith}
-use borrow.Author.Tests.{ltb-true, eqb-true, eq-eqb}
+use borrow.Author.Tests.{ltb-true, eqb-true}
 use lib.Dec.{eqb, ltb}
 use lib.ListN.{length, take, drop, getD, replicate}
 use lib.Seq.{take-take}
 use lib.Ieee.{Float, nan, ofBits, lt}
-use Rattle.arm.proofs.Relinked.{link-passes, links-pass, tags-stay, numbers-stay}
+use Rattle.arm.proofs.Relinked.{link-passes, links-pass, tags-stay, parents-stay}
 use Rattle.arm.proofs.Accepted.{Accepted, accepted, not-refused}
 use Rattle.lists.proofs.Modified.{length-modify, modify-same, modify-other}
 use Rattle.lists.proofs.Every.{every-map, every-at, every-of, every-take}
@@ -28,21 +28,27 @@ use Rattle.masks.specs.Starts.{totalOf}
 use Rattle.masks.proofs.Laws.{fixed-dofs, free-dofs}
 use Rattle.planar.specs.declared.Pose.{Pose}
 use Rattle.planar.specs.Rotation.{isBeyond}
-use Rattle.planar.specs.Poses.{rotationOf, translationOf, isTurn, finiteRotation, finitePoint, finitePose}
+use Rattle.planar.specs.Poses.{rotationOf, translationOf, finiteRotation, finitePoint, finitePose}
 use Rattle.multibody_joint.specs.declared.Joint.{Joint}
 use Rattle.multibody_joint.specs.Joint.{freeJoint, fixedJoint, freePosSet, withFrames, newJoint}
 use Rattle.arm.specs.declared.Link.{Link}
 use Rattle.arm.specs.declared.Row.{Row}
 use Rattle.arm.specs.declared.Arm.{Arm}
 use Rattle.arm.specs.Arm.{liveLinks, linksOf, couplingsOf, tagOf, parentOf, lockedOf, masksOf, dofCountOf, entriesTo, rowsOf, linkAt, noLink}
-use Rattle.arm.specs.HandedIn.{tagsUnique, linkNumbersFit, jointMasksFit, linkMasksFit, rootMaskFits, rootFits, couplingAxesFit, masksAndAxesFit, jointFinite, linkFinite, couplingFinite, rowsFinite, floatsFinite, angleFits, linkAngleFits, anglesFit, armRefusal}
+use Rattle.arm.specs.HandedIn.{jointMasksFit, linkMasksFit, rootMaskFits, rootFits, jointFinite, linkFinite, rowsFinite, angleFits, linkAngleFits, anglesFit, armRefusal}
 use Rattle.arm.proofs.Live.{dof-count-le}
 use Rattle.full_working.specs.Outcome.{tablesFit}
 use Rattle.full_working.proofs.Again.{call-settles, call-keeps, call-joint}
-use Rattle.root_change.specs.Root.{isRootMask, rootJoint, rootLink, widened, narrowed, rootRow, rootMask, rootRows, rootChanged, rootRefusal, changedRoot}
+use Rattle.root_change.specs.declared.Root.{Root}
+use Rattle.root_change.specs.declared.Root.the-variants.{Free, Fixed}
+use Rattle.root_change.specs.Root.{lockedBy, rootFinite, rootTurns, rootJoint, rootLink, widened, narrowed, rootRow, rootMask, rootRows, rootChanged, rootRefusal, changedRoot}
 use Rattle.root_change.specs.Promises.{RootSettles, RootKeeps}
 
 -- ---- the joint
+
+-- a root is fixed or free
+abbrev pub isRootMask : ℕ → Bool
+isRootMask locked = eqb locked 7 || eqb locked 0
 
 abbrev pub Kind : ℕ → Type 0
 Kind locked = isRootMask locked ≡ true
@@ -57,16 +63,32 @@ root-kind a w h = first (a .links) (liveLinks a) (omega arith) (omega arith)
     first (x ∷ ls) zero p l = absurd (omega arith)
     first (x ∷ ls) (suc n) p l = refl
 
+pub kind-by : (root : Root) → Kind (lockedBy root)
+kind-by (Free p) = refl
+kind-by (Fixed p) = refl
+
+abbrev poseOf : Root → Pose
+poseOf (Free p) = p
+poseOf (Fixed p) = p
+
+pose-finite : (root : Root) → rootFinite root ≡ true → finitePose (poseOf root) ≡ true
+pose-finite (Free p) h = h
+pose-finite (Fixed p) h = h
+
 -- what holds of each of the four joints holds of the root's
-by-type : (P : Joint → Type 0) (locked : ℕ) (p : Pose) (j : Joint) → P (freePosSet j p) → P (withFrames j p) → P (freeJoint p) → P (fixedJoint p) → P (rootJoint locked p j)
+by-type : (P : Joint → Type 0) (root : Root) (j : Joint) → let p = poseOf root in
+    P (freePosSet j p) → P (withFrames j p (j .frame2)) → P (freeJoint p) → P (fixedJoint p) → P (rootJoint root j)
 unfolding rootJoint
-by-type P locked p j a b c d = go (eqb (j .locked) locked) (eqb locked 0)
+by-type P (Free p) j a b c d = go (eqb (j .locked) 0)
   where
-    go : (s f : Bool) → P (cond s (cond f (freePosSet j p) (withFrames j p)) (cond f (freeJoint p) (fixedJoint p)))
-    go true true = a
-    go true false = b
-    go false true = c
-    go false false = d
+    go : (s : Bool) → P (cond s (freePosSet j p) (freeJoint p))
+    go true = a
+    go false = c
+by-type P (Fixed p) j a b c d = go (eqb (j .locked) 7)
+  where
+    go : (s : Bool) → P (cond s (withFrames j p (j .frame2)) (fixedJoint p))
+    go true = b
+    go false = d
 
 pub kinds : (locked : ℕ) → Kind locked → (locked ≡ 7) ⊎ (locked ≡ 0)
 kinds locked k = go (eqb locked 7) refl (eqb locked 0) refl k
@@ -76,28 +98,33 @@ kinds locked k = go (eqb locked 7) refl (eqb locked 0) refl k
     go false e true f h = inr (eqb-true locked 0 f)
     go false e false f h = absurd (true≢false (sym h))
 
-pub root-locked : (locked : ℕ) (p : Pose) (j : Joint) → Kind locked → rootJoint locked p j .locked ≡ locked
-unfolding rootJoint freePosSet withFrames freeJoint fixedJoint newJoint
-root-locked locked p j k = go (eqb (j .locked) locked) refl (eqb locked 0) refl
+pub root-locked : (root : Root) (j : Joint) → rootJoint root j .locked ≡ lockedBy root
+unfolding rootJoint freePosSet freeJoint fixedJoint newJoint
+root-locked (Free p) j = go (eqb (j .locked) 0) refl
   where
-    go : (s : Bool) → eqb (j .locked) locked ≡ s → (f : Bool) → eqb locked 0 ≡ f
-        → cond s (cond f (freePosSet j p) (withFrames j p)) (cond f (freeJoint p) (fixedJoint p)) .locked ≡ locked
-    go true e true h = eqb-true (j .locked) locked e
-    go true e false h = eqb-true (j .locked) locked e
-    go false e true h = sym (eqb-true locked 0 h)
-    go false e false h = elim (kinds locked k) [ inl s ↦ sym s | inr z ↦ absurd (true≢false (sym (eq-eqb locked 0 z) ∙ h)) ]
+    go : (s : Bool) → eqb (j .locked) 0 ≡ s → cond s (freePosSet j p) (freeJoint p) .locked ≡ 0
+    go true e = eqb-true (j .locked) 0 e
+    go false e = refl
+root-locked (Fixed p) j = go (eqb (j .locked) 7) refl
+  where
+    go : (s : Bool) → eqb (j .locked) 7 ≡ s → cond s (withFrames j p (j .frame2)) (fixedJoint p) .locked ≡ 7
+    go true e = eqb-true (j .locked) 7 e
+    go false e = refl
 
-module _ (locked : ℕ) (p : Pose) (j : Joint) where
-  masks-fit : jointMasksFit j ≡ true → jointMasksFit (rootJoint locked p j) ≡ true
-  unfolding jointMasksFit freePosSet withFrames freeJoint fixedJoint newJoint
-  masks-fit h = by-type (λ (k : Joint). jointMasksFit k ≡ true) locked p j h h refl refl
+module _ (root : Root) (j : Joint) where
+  abbrev p : Pose
+  p = poseOf root
 
-  angle-stays : angleFits j ≡ true → angleFits (rootJoint locked p j) ≡ true
-  unfolding angleFits isBeyond lt ofBits freePosSet withFrames freeJoint fixedJoint newJoint
-  angle-stays h = by-type (λ (k : Joint). angleFits k ≡ true) locked p j h h refl refl
+  masks-fit : jointMasksFit j ≡ true → jointMasksFit (rootJoint root j) ≡ true
+  unfolding jointMasksFit freePosSet freeJoint fixedJoint newJoint
+  masks-fit h = by-type (λ (k : Joint). jointMasksFit k ≡ true) root j h h refl refl
 
-  finite-stays : length (j .coordinates) ≡ 3 → finitePose p ≡ true → jointFinite j ≡ true → jointFinite (rootJoint locked p j) ≡ true
-  unfolding jointFinite finitePose finiteRotation finitePoint rotationOf translationOf ofBits freePosSet withFrames freeJoint fixedJoint newJoint
+  angle-stays : angleFits j ≡ true → angleFits (rootJoint root j) ≡ true
+  unfolding angleFits isBeyond lt ofBits freePosSet freeJoint fixedJoint newJoint
+  angle-stays h = by-type (λ (k : Joint). angleFits k ≡ true) root j h h refl refl
+
+  finite-stays : length (j .coordinates) ≡ 3 → finitePose p ≡ true → jointFinite j ≡ true → jointFinite (rootJoint root j) ≡ true
+  unfolding jointFinite finitePose finiteRotation finitePoint rotationOf translationOf ofBits freePosSet freeJoint fixedJoint newJoint
   finite-stays three f h =
       let turn = both-hold (isFinite (p .re) && isFinite (p .im)) (isFinite (p .x) && isFinite (p .y)) f in
       let place = both-hold (isFinite (p .x)) (isFinite (p .y)) (turn .1) in
@@ -107,7 +134,7 @@ module _ (locked : ℕ) (p : Pose) (j : Joint) where
       let coordinates = both-hold _ (allFinite (j .coordinates)) (rotation .0) in
       let frames = both-hold (finitePose (j .frame1)) (finitePose (j .frame2)) (coordinates .0) in
       let kept = both (third (j .coordinates) three (coordinates .1)) refl in
-      by-type (λ (k : Joint). jointFinite k ≡ true) locked p j
+      by-type (λ (k : Joint). jointFinite k ≡ true) root j
       (both (both (both (both (coordinates .0) (both (place .0) (both (place .1) kept))) (turn .0)) (stiffness .1)) (rest .1))
       (both (both (both (both (both f (frames .1)) (coordinates .1)) (rotation .1)) (stiffness .1)) (rest .1))
       (both (both (both (both refl (both (place .0) (both (place .1) refl))) (turn .0)) refl) refl)
@@ -119,9 +146,9 @@ module _ (locked : ℕ) (p : Pose) (j : Joint) where
       third (x ∷ y ∷ []) l e = absurd (omega arith)
       third (x ∷ y ∷ z ∷ xs) l e = both-hold (isFinite z) _ (both-hold (isFinite y) _ (both-hold (isFinite x) _ e .1) .1) .0
 
-  three-stay : length (j .coordinates) ≡ 3 → length (rootJoint locked p j .coordinates) ≡ 3
-  unfolding freePosSet withFrames freeJoint fixedJoint newJoint
-  three-stay h = by-type (λ (k : Joint). length (k .coordinates) ≡ 3) locked p j refl h refl refl
+  three-stay : length (j .coordinates) ≡ 3 → length (rootJoint root j .coordinates) ≡ 3
+  unfolding freePosSet freeJoint fixedJoint newJoint
+  three-stay h = by-type (λ (k : Joint). length (k .coordinates) ≡ 3) root j refl h refl refl
 
 -- ---- a row
 
@@ -200,16 +227,19 @@ module _ (f : Link → Link) where
   behind-stays n [] = refl
   behind-stays n (l ∷ ls) = refl
 
-module _ (a : Arm) (sized : length (a .links) ≡ linkLimit) (three : length (linkAt (a .links) 0 .joint .coordinates) ≡ 3) (locked : ℕ) (p : Pose) (some : 0 < a .«link_count») (kind : Kind locked) (pose : finitePose p ≡ true)
-    (old : armRefusal a ≡ 0) where
+module _ (a : Arm) (sized : length (a .links) ≡ linkLimit) (three : length (linkAt (a .links) 0 .joint .coordinates) ≡ 3) (to : Root) (some : 0 < a .«link_count»)
+    (finite : rootFinite to ≡ true) (old : armRefusal a ≡ 0) where
+  abbrev locked : ℕ
+  locked = lockedBy to
+
   abbrev change : Link → Link
-  change = rootLink locked p
+  change = rootLink to
 
   abbrev ls : List Link
   ls = modify change 0 (a .links)
 
   abbrev new : Arm
-  new = rootChanged a locked p
+  new = rootChanged a to
 
   was : Accepted a
   was = accepted a old
@@ -233,31 +263,24 @@ module _ (a : Arm) (sized : length (a .links) ≡ linkLimit) (three : length (li
   abbrev root : Joint
   root = linkAt (a .links) 0 .joint
 
-  masks-were : (every linkMasksFit (linksOf a) ≡ true) × (rootFits a ≡ true)
-  masks-were = both-hold _ _ (both-hold _ (every couplingAxesFit (couplingsOf a)) (was .masks) .0)
-
   was-kind : Kind (rootMask a)
-  was-kind = root-kind a sized (λ z. omega arith) ∙ masks-were .1
+  was-kind = root-kind a sized (λ z. omega arith) ∙ was .root
 
   new-mask : linkAt ls 0 .joint .locked ≡ locked
   unfolding rootLink
-  new-mask = ap (λ (l : Link). l .joint .locked) root-at ∙ root-locked locked p root kind
+  new-mask = ap (λ (l : Link). l .joint .locked) root-at ∙ root-locked to root
 
-  masks-after : masksAndAxesFit new ≡ true
-  unfolding rootChanged rootLink couplingsOf
-  masks-after =
-      both
-      (both
-      (links-pass new sized-after linkMasksFit (test-stays linkMasksFit (masks-were .0) (masks-fit locked p root)))
-      (sym (root-kind new sized-after (λ z. omega arith)) ∙ ap isRootMask new-mask ∙ kind))
-      (both-hold (every linkMasksFit (linksOf a) && rootFits a) _ (was .masks) .1)
+  masks-after : every linkMasksFit (linksOf new) ≡ true
+  unfolding rootChanged rootLink
+  masks-after = links-pass new sized-after linkMasksFit (test-stays linkMasksFit (was .masks) (masks-fit to root))
+
+  root-after : rootFits new ≡ true
+  unfolding rootChanged
+  root-after = sym (root-kind new sized-after (λ z. omega arith)) ∙ ap isRootMask new-mask ∙ kind-by to
 
   angles-after : anglesFit new ≡ true
   unfolding rootChanged rootLink
-  angles-after = links-pass new sized-after linkAngleFits (test-stays linkAngleFits (was .angles) (angle-stays locked p root))
-
-  floats-were : ((every linkFinite (linksOf a) && every couplingFinite (couplingsOf a)) ≡ true) × (rowsFinite a ≡ true)
-  floats-were = both-hold _ (rowsFinite a) (was .floats)
+  angles-after = links-pass new sized-after linkAngleFits (test-stays linkAngleFits (was .angles) (angle-stays to root))
 
   link-finite : linkFinite (linkAt (a .links) 0) ≡ true → linkFinite (change (linkAt (a .links) 0)) ≡ true
   unfolding rootLink linkFinite
@@ -267,7 +290,7 @@ module _ (a : Arm) (sized : length (a .links) ≡ linkLimit) (three : length (li
       let s02 = both-hold _ (finitePoint (l .shift02)) (s23 .0) in
       let world = both-hold _ (finitePose (l .world)) (s02 .0) in
       let own = both-hold (jointFinite root) (finitePoint (l .centre)) (world .0) in
-      both (both (both (both (finite-stays locked p root three pose (own .0)) (own .1)) (world .1)) (s02 .1)) (s23 .1)
+      both (both (both (both (finite-stays to root three (pose-finite to finite) (own .0)) (own .1)) (world .1)) (s02 .1)) (s23 .1)
 
   -- the DoFs behind the root's stay
   abbrev n : ℕ
@@ -293,67 +316,59 @@ module _ (a : Arm) (sized : length (a .links) ≡ linkLimit) (three : length (li
       ∙ every-map (finiteTo (dofCountOf new)) g (a .rows)
       ∙ every-of (λ (r : Row). finiteTo (dofCountOf new) (g r)) (a .rows) (record { entries = [] }) (λ j h.
       let r = getD (a .rows) j (record { entries = [] }) in
-      let e : finiteTo (dofCountOf a) r ≡ true = every-at (finiteTo (dofCountOf a)) (a .rows) (record { entries = [] }) (sym (every-map allFinite (entriesTo (dofCountOf a)) (a .rows)) ∙ floats-were .1) j h in
+      let e : finiteTo (dofCountOf a) r ≡ true = every-at (finiteTo (dofCountOf a)) (a .rows) (record { entries = [] }) (sym (every-map allFinite (entriesTo (dofCountOf a)) (a .rows)) ∙ was .rows) j h in
       ap (λ (k : ℕ). allFinite (take k (g r .entries))) dofs-after
-      ∙ row-finite n r (rootMask a) locked was-kind kind (omega (arith, dofs-after, dof-count-le new)) (ap (λ (k : ℕ). allFinite (take k (r .entries))) (sym dofs-were) ∙ e))
-
-  floats-after : floatsFinite new ≡ true
-  unfolding couplingsOf rootChanged
-  floats-after =
-      let q = both-hold (every linkFinite (linksOf a)) _ (floats-were .0) in
-      both (both (links-pass new sized-after linkFinite (test-stays linkFinite (q .0) link-finite)) (q .1)) rows-after
-
-  tags-after : tagsUnique new ≡ tagsUnique a
-  unfolding rootChanged rootLink
-  tags-after = tags-stay a sized ls sized-after (rootRows a locked) (view-stays tagOf refl)
-
-  numbers-after : linkNumbersFit new ≡ linkNumbersFit a
-  unfolding rootChanged rootLink
-  numbers-after = numbers-stay a sized ls sized-after (rootRows a locked) (view-stays parentOf refl)
+      ∙ row-finite n r (rootMask a) locked was-kind (kind-by to) (omega (arith, dofs-after, dof-count-le new)) (ap (λ (k : ℕ). allFinite (take k (r .entries))) (sym dofs-were) ∙ e))
 
   accepted-after : armRefusal new ≡ 0
-  unfolding rootChanged
+  unfolding rootChanged rootLink couplingsOf
   accepted-after = not-refused new (record {
     counts = was .counts;
-    tags = tags-after ∙ was .tags;
-    numbers = numbers-after ∙ was .numbers;
+    tags = tags-stay a sized ls sized-after (rootRows a to) (view-stays tagOf refl) ∙ was .tags;
+    parents = parents-stay a sized ls sized-after (rootRows a to) (view-stays parentOf refl) ∙ was .parents;
+    coupled = was .coupled;
     masks = masks-after;
-    floats = floats-after;
+    root = root-after;
+    axes = was .axes;
+    links = links-pass new sized-after linkFinite (test-stays linkFinite (was .links) link-finite);
+    couplings = was .couplings;
+    rows = rows-after;
     angles = angles-after;
   })
 
 -- ---- the call
 
-module _ (a : Arm) (sized : length (a .links) ≡ linkLimit) (three : length (linkAt (a .links) 0 .joint .coordinates) ≡ 3) (locked : ℕ) (p : Pose) where
-  changed : (t : List Float) → rootRefusal a t locked p ≡ 0 → armRefusal (rootChanged a locked p) ≡ 0
+module _ (a : Arm) (sized : length (a .links) ≡ linkLimit) (three : length (linkAt (a .links) 0 .joint .coordinates) ≡ 3) (to : Root) where
+  changed : (t : List Float) → rootRefusal a t to ≡ 0 → armRefusal (rootChanged a to) ≡ 0
   unfolding rootRefusal
   changed t e =
-      let ks = unlessOf (tablesFit t) 1 ∷ unlessOf (ltb 0 (a .«link_count»)) 4 ∷ unlessOf (isRootMask locked) 5 ∷ unlessOf (finitePose p) 7 ∷ unlessOf (isTurn (rotationOf p)) 8 ∷ armRefusal a ∷ [] in
-      accepted-after a sized three locked p
+      let ks = unlessOf (tablesFit t) 1 ∷ unlessOf (ltb 0 (a .«link_count»)) 4 ∷ unlessOf (rootFinite to) 7 ∷ unlessOf (rootTurns to) 8 ∷ armRefusal a ∷ [] in
+      accepted-after a sized three to
       (ltb-true 0 (a .«link_count») (holds-in ks e (ltb 0 (a .«link_count»)) 3 (inr (inl refl))))
-      (holds-in ks e (isRootMask locked) 4 (inr (inr (inl refl))))
-      (holds-in ks e (finitePose p) 6 (inr (inr (inr (inl refl)))))
-      (is-lowest ks .none e (armRefusal a) (inr (inr (inr (inr (inr (inl refl)))))))
+      (holds-in ks e (rootFinite to) 6 (inr (inr (inl refl))))
+      (is-lowest ks .none e (armRefusal a) (inr (inr (inr (inr (inl refl))))))
 
-  new-sized : length (rootChanged a locked p .links) ≡ linkLimit
+  new-sized : length (rootChanged a to .links) ≡ linkLimit
   unfolding rootChanged
-  new-sized = length-modify (rootLink locked p) 0 (a .links) ∙ sized
+  new-sized = length-modify (rootLink to) 0 (a .links) ∙ sized
 
-  new-three : length (linkAt (rootChanged a locked p .links) 0 .joint .coordinates) ≡ 3
+  new-three : length (linkAt (rootChanged a to .links) 0 .joint .coordinates) ≡ 3
   unfolding rootChanged rootLink
-  new-three = ap (λ (l : Link). length (l .joint .coordinates)) (modify-same (rootLink locked p) 0 (a .links) noLink (omega arith)) ∙ three-stay locked p (linkAt (a .links) 0 .joint) three
+  new-three =
+      ap (λ (l : Link). length (l .joint .coordinates)) (modify-same (rootLink to) 0 (a .links) noLink (omega arith)) ∙ three-stay to (linkAt (a .links) 0 .joint) three
 
 pub root-settles : RootSettles
 unfolding changedRoot
-root-settles a t locked p sized three r =
-    call-settles a (rootChanged a locked p) (new-sized a sized three locked p) t (rootRefusal a t locked p) (changed a sized three locked p t) r .1
+root-settles a t to sized three r =
+    call-settles a (rootChanged a to) (new-sized a sized three to) t (rootRefusal a t to) (changed a sized three to t) r .1
 
 pub root-keeps : RootKeeps
 unfolding changedRoot
-root-keeps a t locked p sized three settled =
-    let leaves = call-keeps a (rootChanged a locked p) (new-sized a sized three locked p) t (rootRefusal a t locked p) (changed a sized three locked p t) sized settled in (
+root-keeps a t to sized three settled =
+    let sized′ = new-sized a sized three to in
+    let passes = changed a sized three to t in
+    let leaves = call-keeps a (rootChanged a to) sized′ t (rootRefusal a t to) passes sized settled in (
       leaves .0,
-      call-joint a (rootChanged a locked p) (new-sized a sized three locked p) t (rootRefusal a t locked p) (changed a sized three locked p t) (λ (j : Joint). length (j .coordinates) ≡ 3) 0 three
-          (new-three a sized three locked p),
+      call-joint a (rootChanged a to) sized′ t (rootRefusal a t to) passes (λ (j : Joint). length (j .coordinates) ≡ 3) 0 three (new-three a sized three to),
       leaves .1,
     )

@@ -1,6 +1,6 @@
--- The root change (`update_root_type`), by the type, which is its locked mask, and the pose; then the full working.
+-- The root change (`update_root_type`), by a value that says free or fixed, and at which pose; then the full working.
 use Prim.Native.Nat.{ℕ, _-_}
-use mathlib.Core.Bool.{Bool, cond, _||_}
+use mathlib.Core.Bool.{Bool, cond}
 use mathlib.Core.List.{List, [], _∷_, _++_, map}
 use lib.Dec.{eqb, ltb}
 use lib.ListN.{take, drop, replicate}
@@ -10,7 +10,6 @@ use Rattle.lists.specs.Lists.{modify}
 use Rattle.limits.specs.Limits.{dofLimit}
 use Rattle.refusal.specs.Refusal.{unlessOf, lowest}
 use Rattle.floats.specs.Floats.{zero32}
-use Rattle.planar.specs.declared.Pose.{Pose}
 use Rattle.planar.specs.Poses.{rotationOf, isTurn, finitePose}
 use Rattle.multibody_joint.specs.declared.Joint.{Joint}
 use Rattle.multibody_joint.specs.Joint.{withFrames, freeJoint, fixedJoint, freePosSet}
@@ -19,24 +18,25 @@ use Rattle.arm.specs.declared.Row.{Row}
 use Rattle.arm.specs.declared.Arm.{Arm}
 use Rattle.arm.specs.Setters.{withJoint, armWith}
 use Rattle.arm.specs.HandedIn.{armRefusal}
+use Rattle.root_change.specs.declared.Root.{Root}
+use Rattle.root_change.specs.declared.Root.the-variants.{Free, Fixed}
 use Rattle.full_working.specs.Outcome.{Outcome, unlessRefused, tablesFit, workedAll}
 
 -- ---- the root's joint
 
--- a root is fixed or free
-abbrev pub isRootMask : ℕ → Bool
-isRootMask locked = eqb locked 7 || eqb locked 0
+-- the locked mask of what the root becomes
+abbrev pub lockedBy : Root → ℕ
+lockedBy (Free p) = 0
+lockedBy (Fixed p) = 7
 
 -- the same type: a free joint's position is set, or a fixed one's frame 1; another: a free or a fixed joint comes in at the pose
-unfoldable pub rootJoint : ℕ → Pose → Joint → Joint
-rootJoint locked p j =
-    cond (eqb (j .locked) locked)
-    (cond (eqb locked 0) (freePosSet j p) (withFrames j p (j .frame2)))
-    (cond (eqb locked 0) (freeJoint p) (fixedJoint p))
+unfoldable pub rootJoint : Root → Joint → Joint
+rootJoint (Free p) j = cond (eqb (j .locked) 0) (freePosSet j p) (freeJoint p)
+rootJoint (Fixed p) j = cond (eqb (j .locked) 7) (withFrames j p (j .frame2)) (fixedJoint p)
 
 -- tag, parent and centre of mass stay
-unfoldable pub rootLink : ℕ → Pose → Link → Link
-rootLink locked p l = withJoint l (rootJoint locked p (l .joint))
+unfoldable pub rootLink : Root → Link → Link
+rootLink root l = withJoint l (rootJoint root (l .joint))
 
 -- ---- a row
 
@@ -58,23 +58,33 @@ abbrev pub rootMask : Arm → ℕ
 rootMask a = linkAt (a .links) 0 .joint .locked
 
 -- every row alike
-unfoldable pub rootRows : Arm → ℕ → List Row
-rootRows a locked = map (rootRow (rootMask a) locked) (a .rows)
+unfoldable pub rootRows : Arm → Root → List Row
+rootRows a root = map (rootRow (rootMask a) (lockedBy root)) (a .rows)
 
 -- the arm with its root changed, and nothing worked out
-unfoldable pub rootChanged : Arm → ℕ → Pose → Arm
-rootChanged a locked p = armWith a (a .«link_count») (a .«coupling_count») (modify (rootLink locked p) 0 (a .links)) (a .couplings) (rootRows a locked)
+unfoldable pub rootChanged : Arm → Root → Arm
+rootChanged a root =
+    armWith a (a .«link_count») (a .«coupling_count») (modify (rootLink root) 0 (a .links)) (a .couplings) (rootRows a root)
 
-unfoldable pub rootRefusal : Arm → List Float → ℕ → Pose → ℕ
-rootRefusal a t locked p =
+-- 7: what is given is finite
+abbrev pub rootFinite : Root → Bool
+rootFinite (Free p) = finitePose p
+rootFinite (Fixed p) = finitePose p
+
+-- 8: its rotation is a turn
+abbrev pub rootTurns : Root → Bool
+rootTurns (Free p) = isTurn (rotationOf p)
+rootTurns (Fixed p) = isTurn (rotationOf p)
+
+unfoldable pub rootRefusal : Arm → List Float → Root → ℕ
+rootRefusal a t root =
     lowest
     (unlessOf (tablesFit t) 1
     ∷ unlessOf (ltb 0 (a .«link_count»)) 4
-    ∷ unlessOf (isRootMask locked) 5
-    ∷ unlessOf (finitePose p) 7
-    ∷ unlessOf (isTurn (rotationOf p)) 8
+    ∷ unlessOf (rootFinite root) 7
+    ∷ unlessOf (rootTurns root) 8
     ∷ armRefusal a
     ∷ [])
 
-unfoldable pub changedRoot : Arm → List Float → ℕ → Pose → Outcome
-changedRoot a t locked p = unlessRefused (rootRefusal a t locked p) a t (workedAll a (rootChanged a locked p) t)
+unfoldable pub changedRoot : Arm → List Float → Root → Outcome
+changedRoot a t root = unlessRefused (rootRefusal a t root) a t (workedAll a (rootChanged a root) t)

@@ -1,7 +1,8 @@
 // The root change of an arm (`update_root_type`): the root is fixed or free at a pose, then the arm is worked out in full.
 ghost use mathlib.Core.Path.{_≡_};
 ghost use Rattle.full_working.specs.Outcome.{out};
-ghost use Rattle.root_change.specs.Root.{rootJoint, rootLink, widened, narrowed, rootRow, rootRows, rootChanged, rootRefusal, changedRoot};
+ghost use Rattle.root_change.specs.declared.Root.the-variants.{Free, Fixed};
+ghost use Rattle.root_change.specs.Root.{lockedBy, rootJoint, rootLink, widened, narrowed, rootRow, rootRows, rootChanged, rootFinite, rootTurns, rootRefusal, changedRoot};
 use arm::Arm;
 use arm::Edited;
 use arm::Link;
@@ -9,7 +10,7 @@ use arm::Row;
 use arm::arm_refusal;
 use arm::arm_with;
 use arm::with_joint;
-use floats::copy;
+use floats::copy_part;
 use limits::DOFS;
 use multibody_joint::Joint;
 use multibody_joint::fixed;
@@ -20,33 +21,62 @@ use planar::Pose;
 use planar::is_finite_pose;
 use planar::is_turn;
 use planar::rotation_of;
-use refusal::lower;
+use refusal::lowest;
 use refusal::unless;
 use full_working::tables_fit;
 use full_working::work_all;
 
+// What a root is changed to: free or fixed, at a pose.
+pub enum Root {
+    Free(Pose),
+    Fixed(Pose),
+}
+
 // ---- The root's joint
 
-// Of the same type, a free joint's position is set, or a fixed one's frame 1; else a free or a fixed joint comes in at the pose.
-fn root_joint(j: Joint, locked: u32, pose: Pose) -> Joint
-    ensures { λ r. ⌜ r ≡ rootJoint locked pose j ⌝ }
+// The locked mask of what the root becomes.
+fn locked_by(root: Root) -> u8
+    ensures { λ r. ⌜ r ≡ lockedBy root ⌝ }
 {
-    if (j.locked as u32) == locked {
-        if locked == 0 {
-            return set_free_pos(j, pose);
-        }
-        return with_frames(j, pose, j.frame2);
+    match root {
+        Root::Free(_) => 0,
+        Root::Fixed(_) => 7,
     }
-    if locked == 0 {
-        return free(pose);
+}
+
+// Of the same type, a free joint's position is set.
+fn free_joint(j: Joint, pose: Pose) -> Joint
+    ensures { λ r. ⌜ r ≡ rootJoint (Free pose) j ⌝ }
+{
+    if j.locked == 0 {
+        return set_free_pos(j, pose);
+    }
+    free(pose)
+}
+
+// Of the same type, a fixed joint's frame 1 is set.
+fn fixed_joint(j: Joint, pose: Pose) -> Joint
+    ensures { λ r. ⌜ r ≡ rootJoint (Fixed pose) j ⌝ }
+{
+    if j.locked == 7 {
+        return with_frames(j, pose, j.frame2);
     }
     fixed(pose)
 }
 
-fn root_link(l: Link, locked: u32, pose: Pose) -> Link
-    ensures { λ r. ⌜ r ≡ rootLink locked pose l ⌝ }
+fn root_joint(j: Joint, root: Root) -> Joint
+    ensures { λ r. ⌜ r ≡ rootJoint root j ⌝ }
 {
-    with_joint(l, root_joint(l.joint, locked, pose))
+    match root {
+        Root::Free(pose) => free_joint(j, pose),
+        Root::Fixed(pose) => fixed_joint(j, pose),
+    }
+}
+
+fn root_link(l: Link, root: Root) -> Link
+    ensures { λ r. ⌜ r ≡ rootLink root l ⌝ }
+{
+    with_joint(l, root_joint(l.joint, root))
 }
 
 // ---- Rows
@@ -57,7 +87,7 @@ fn widened_row(row: Row) -> Row
 {
     let old = row.entries;
     let mut entries = [0.0f32; DOFS];
-    copy(&mut entries[3..], &old);
+    copy_part(&mut entries, 3, &old, 0, DOFS - 3);
     Row { entries }
 }
 
@@ -67,14 +97,14 @@ fn narrowed_row(row: Row) -> Row
 {
     let old = row.entries;
     let mut entries = [0.0f32; DOFS];
-    copy(&mut entries, &old[3..]);
+    copy_part(&mut entries, 0, &old, 3, DOFS - 3);
     Row { entries }
 }
 
-fn root_row(row: Row, from: u8, to: u32) -> Row
+fn root_row(row: Row, from: u8, to: u8) -> Row
     ensures { λ r. ⌜ r ≡ rootRow from to row ⌝ }
 {
-    if (from as u32) == to {
+    if from == to {
         return row;
     }
     if to == 0 {
@@ -84,16 +114,17 @@ fn root_row(row: Row, from: u8, to: u32) -> Row
 }
 
 // Every row alike, the damping too.
-fn root_rows(arm: Arm, locked: u32) -> [Row; 5]
-    ensures { λ r. ⌜ r ≡ rootRows arm locked ⌝ }
+fn root_rows(arm: Arm, root: Root) -> [Row; 5]
+    ensures { λ r. ⌜ r ≡ rootRows arm root ⌝ }
 {
-    let root = arm.links[0];
-    let from = root.joint.locked;
+    let first = arm.links[0];
+    let from = first.joint.locked;
+    let to = locked_by(root);
     let mut rows = arm.rows;
     let mut i = 0;
     while i < 5 {
         let old = arm.rows[i];
-        let row = root_row(old, from, locked);
+        let row = root_row(old, from, to);
         rows[i] = row;
         i += 1;
     }
@@ -102,14 +133,14 @@ fn root_rows(arm: Arm, locked: u32) -> [Row; 5]
 
 // ---- The change
 
-fn root_changed(arm: Arm, locked: u32, pose: Pose) -> Arm
-    ensures { λ r. ⌜ r ≡ rootChanged arm locked pose ⌝ }
+fn root_changed(arm: Arm, root: Root) -> Arm
+    ensures { λ r. ⌜ r ≡ rootChanged arm root ⌝ }
 {
-    let rows = root_rows(arm, locked);
+    let rows = root_rows(arm, root);
     let mut links = arm.links;
     let old = links[0];
-    let root = root_link(old, locked, pose);
-    links[0] = root;
+    let link = root_link(old, root);
+    links[0] = link;
     let couplings = arm.couplings;
     arm_with(
         arm,
@@ -121,32 +152,45 @@ fn root_changed(arm: Arm, locked: u32, pose: Pose) -> Arm
     )
 }
 
-fn root_refusal(arm: Arm, tables: &[f32], locked: u32, pose: Pose) -> u8
-    ensures { λ r. ⌜ r ≡ rootRefusal arm (now (tables .entry)) locked pose ⌝ }
+fn is_finite_root(root: Root) -> bool
+    ensures { λ r. ⌜ r ≡ rootFinite root ⌝ }
 {
-    lower(
-        unless(tables_fit(tables), 1),
-        lower(
-            unless(0 < arm.link_count, 4),
-            lower(
-                unless((locked == 7) | (locked == 0), 5),
-                lower(
-                    unless(is_finite_pose(pose), 7),
-                    lower(unless(is_turn(rotation_of(pose)), 8), arm_refusal(arm)),
-                ),
-            ),
-        ),
-    )
+    match root {
+        Root::Free(pose) => is_finite_pose(pose),
+        Root::Fixed(pose) => is_finite_pose(pose),
+    }
 }
 
-// The root's type is given as its locked mask, 7 or 0. All of the tables are rewritten.
-pub fn change_root(arm: Arm, tables: &mut [f32], locked: u32, pose: Pose) -> Edited
-    ensures { λ e. ⌜ out e (now (tables .exit)) ≡ changedRoot arm (now (tables .entry)) locked pose ⌝ }
+fn turn_fits(root: Root) -> bool
+    ensures { λ r. ⌜ r ≡ rootTurns root ⌝ }
 {
-    let refusal = root_refusal(arm, tables, locked, pose);
+    match root {
+        Root::Free(pose) => is_turn(rotation_of(pose)),
+        Root::Fixed(pose) => is_turn(rotation_of(pose)),
+    }
+}
+
+fn root_refusal(arm: Arm, tables: &[f32], root: Root) -> u8
+    ensures { λ r. ⌜ r ≡ rootRefusal arm (now (tables .entry)) root ⌝ }
+{
+    let refusals = [
+        unless(tables_fit(tables), 1),
+        unless(0 < arm.link_count, 4),
+        unless(is_finite_root(root), 7),
+        unless(turn_fits(root), 8),
+        arm_refusal(arm),
+    ];
+    lowest(&refusals)
+}
+
+// The root is changed, and all of the tables are rewritten.
+pub fn change_root(arm: Arm, tables: &mut [f32], root: Root) -> Edited
+    ensures { λ e. ⌜ out e (now (tables .exit)) ≡ changedRoot arm (now (tables .entry)) root ⌝ }
+{
+    let refusal = root_refusal(arm, tables, root);
     if refusal != 0 {
         return Edited { refusal, arm };
     }
-    let new = root_changed(arm, locked, pose);
+    let new = root_changed(arm, root);
     work_all(arm, new, tables)
 }

@@ -1,32 +1,33 @@
--- `narrowed_row`: zeros overlaid by the row from its fourth entry on. Assumes nothing.
-use native.Mathlib.Omega.{arith}
-use borrow.Author.Needs.{needs}
+-- `narrowed_row`: a part of the row is copied among zeros. Assumes nothing.
 use Rattle.arm.proofs.Shape.{row-length}
 use Rattle.root_change.proofs.Rows.{is-narrowed}
+use borrow.Author.Needs.{needs}
 use Rattle.root_change.proofs.narrowed_row.Statement.{statement}
 use Rattle.root_change.proofs.narrowed_row.Tie as tie
 
-slice-aggregate-copy : tie.Need-slice-aggregate-copy
-slice-aggregate-copy c = search needs
+slice-aggregate-copy-part : tie.Need-slice-aggregate-copy-part
+slice-aggregate-copy-part c = search needs
 
-sub-copy : tie.Need-sub-copy
-sub-copy c = search needs
+slice-aggregate-copy-part-2 : tie.Need-slice-aggregate-copy-part-2
+slice-aggregate-copy-part-2 c = search needs
 
-part-copy-start : tie.Need-part-copy-start
-part-copy-start c = search needs
+sub-copy-part : tie.Need-sub-copy-part
+sub-copy-part c = search needs
 
-part-copy-end : tie.Need-part-copy-end
-part-copy-end c = omega (arith, row-length (c .before .before .before .args .row) (c .before .before .before .good .0))
-
-copy-requires : tie.Need-copy-requires
-copy-requires c κs = search needs
+copy-part-requires : tie.Need-copy-part-requires
+copy-part-requires c κs = search needs
 
 returns : tie.Need-returns
 returns c =
-    let own = c .before .before .before .before .before .before .args in
-    is-narrowed (own .row) (row-length (own .row) (c .before .before .before .before .before .before .good .0)) _ (c .before .copy .ensures)
+    let begun : tie.Start = search in
+    is-narrowed (begun .args .row) (row-length (begun .args .row) (begun .good .0)) _ (c .before .copy-part .ensures)
 
 pub narrowed-row-spec : {M : Type 1} → statement M
 narrowed-row-spec =
     tie.close
-    (tie.spec slice-aggregate-copy sub-copy part-copy-start part-copy-end copy-requires returns)
+    (tie.spec
+    slice-aggregate-copy-part
+    slice-aggregate-copy-part-2
+    sub-copy-part
+    copy-part-requires
+    returns)

@@ -1,6 +1,7 @@
--- `root_changed`: the rows, and the root in its place. Assumes nothing.
-use borrow.Author.Needs.{needs}
+-- `root_changed`: the arm with its new root and rows in their places. Assumes nothing.
+use mathlib.Core.Path.{_∙_}
 use Rattle.root_change.proofs.Joints.{changed-is}
+use borrow.Author.Needs.{needs}
 use Rattle.root_change.proofs.root_changed.Statement.{statement}
 use Rattle.root_change.proofs.root_changed.Tie as tie
 
@@ -16,10 +17,15 @@ root-link-requires c κs = search needs
 array-set-from-links : tie.Need-array-set-from-links
 array-set-from-links c = search needs
 
+arm-with-requires : tie.Need-arm-with-requires
+arm-with-requires c κs = search needs
+
 returns : tie.Need-returns
 returns c =
-    let own = c .before .before .before .before .before .args in
-    changed-is (own .arm) (own .locked) (own .pose) _ _ (c .before .before .before .before .root-rows .ensures) (c .before .root-link .ensures)
+    let begun : tie.Start = search in
+    let linked : tie.After-root-link = search in
+    let rows : tie.After-root-rows = search in
+    c .arm-with .ensures ∙ changed-is (begun .args .arm) (begun .args .root) _ _ (rows .root-rows .ensures) (linked .root-link .ensures)
 
 pub root-changed-spec : {M : Type 1} → statement M
 root-changed-spec =
@@ -29,4 +35,5 @@ root-changed-spec =
     array-copy-out-old
     root-link-requires
     array-set-from-links
+    arm-with-requires
     returns)

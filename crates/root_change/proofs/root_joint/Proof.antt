@@ -1,52 +1,42 @@
--- `root_joint`: each branch is its case of the definition. Assumes nothing.
+-- `root_joint`: each variant is its case of the definition. Assumes nothing.
+use mathlib.Core.Path.{sym, ap, _∙_}
+use Rattle.root_change.specs.declared.Root.{Root}
+use Rattle.root_change.specs.Root.{rootJoint}
 use borrow.Author.Needs.{needs}
-use Rattle.multibody_joint.specs.Joint.{withFrames}
-use Rattle.root_change.proofs.Joints.{free-stays, fixed-stays, turns-free, turns-fixed}
 use Rattle.root_change.proofs.root_joint.Statement.{statement}
 use Rattle.root_change.proofs.root_joint.Tie as tie
 
-cast-if1 : tie.Need-cast-if1
-cast-if1 c = search needs
+enum-known-root : tie.Need-enum-known-root
+enum-known-root c = search needs
 
-set-free-pos-requires : tie.Need-set-free-pos-requires
-set-free-pos-requires c κs = search needs
+free-joint-requires : tie.Need-free-joint-requires
+free-joint-requires c κs = search needs
+
+enum-known-root-2 : tie.Need-enum-known-root-2
+enum-known-root-2 c = search needs
+
+fixed-joint-requires : tie.Need-fixed-joint-requires
+fixed-joint-requires c κs = search needs
 
 returns : tie.Need-returns
 returns c =
-    let own = c .before .before .before .before .args in
-    free-stays (own .locked) (own .pose) (own .j) (c .before .before .if1 .taken) (c .before .if2 .taken) (c .set-free-pos .ensures)
+    let told = c .before .before in
+    let j = told .before .before .args .j in
+    c .free-joint .ensures ∙ sym (ap (λ (root : Root). rootJoint root j) (told .root .given .1))
 
 returns-2 : tie.Need-returns-2
-unfolding withFrames
 returns-2 c =
-    let own = c .before .before .before .before .before .before .before .before .args in
-    fixed-stays (own .locked) (own .pose) (own .j) (c .before .before .before .before .before .before .if1 .taken) (c .before .before .before .before .before .if2 .left)
-
-free-requires : tie.Need-free-requires
-free-requires c κs = search needs
-
-returns-3 : tie.Need-returns-3
-returns-3 c =
-    let own = c .before .before .before .before .args in
-    turns-free (own .locked) (own .pose) (own .j) (c .before .before .if1 .left) (c .before .if3 .taken) (c .free .ensures)
-
-fixed-requires : tie.Need-fixed-requires
-fixed-requires c κs = search needs
-
-returns-4 : tie.Need-returns-4
-returns-4 c =
-    let own = c .before .before .before .before .args in
-    turns-fixed (own .locked) (own .pose) (own .j) (c .before .before .if1 .left) (c .before .if3 .left) (c .fixed .ensures)
+    let told = c .before .before in
+    let j = told .before .before .args .j in
+    c .fixed-joint .ensures ∙ sym (ap (λ (root : Root). rootJoint root j) (told .root2 .given .1))
 
 pub root-joint-spec : {M : Type 1} → statement M
 root-joint-spec =
     tie.close
     (tie.spec
-    cast-if1
-    set-free-pos-requires
+    enum-known-root
+    free-joint-requires
+    enum-known-root-2
+    fixed-joint-requires
     returns
-    returns-2
-    free-requires
-    returns-3
-    fixed-requires
-    returns-4)
+    returns-2)

@@ -1,26 +1,31 @@
--- `root_rows`: the loop fills the rows from the front. Assumes nothing.
+-- `root_rows`: the first i rows are changed, the others are as they were. Assumes nothing.
 use Prim.Native.Nat.{_-_, _≤_}
-use mathlib.Core.Path.{_≡_, refl, _∙_}
+use mathlib.Core.Path.{_≡_, refl, ap, _∙_}
 use native.Mathlib.Omega.{arith}
 use lib.ListN.{length, take, length-set}
-use borrow.Author.Needs.{needs}
 use Rattle.arm.proofs.Shape.{rows-length}
 use Rattle.root_change.specs.Root.{rootMask, rootRows}
-use Rattle.root_change.proofs.Rows.{rows-more, rows-all}
+use Rattle.root_change.proofs.Rows.{rowsTo, rows-more, rows-all}
+use borrow.Author.Needs.{needs}
 use Rattle.root_change.proofs.root_rows.Statement.{statement}
 use Rattle.root_change.proofs.root_rows.Tie as tie
 
 abbrev Inv-loop : tie.InvT-loop
-Inv-loop locked arm from rows₀ i₀ rows i = (from ≡ rootMask arm) × (i ≤ 5) × (length rows ≡ 5) × (take i rows ≡ take i (rootRows arm locked))
+Inv-loop arm from to rows₀ i₀ rows i = (from ≡ rootMask arm) × (i ≤ 5) × (length rows ≡ 5) × (take i rows ≡ take i (rowsTo arm to))
 
 abbrev μ-loop : tie.MeasureT-loop
-μ-loop locked arm from rows₀ i₀ rows i = 5 - i
+μ-loop arm from to rows₀ i₀ rows i = 5 - i
 
-element-copy-out-root : tie.Need-element-copy-out-root Inv-loop μ-loop
-element-copy-out-root c = search needs
+element-copy-out-first : tie.Need-element-copy-out-first Inv-loop μ-loop
+element-copy-out-first c = search needs
+
+locked-by-requires : tie.Need-locked-by-requires Inv-loop μ-loop
+locked-by-requires c κs = search needs
 
 loop-holds : tie.Need-loop-holds Inv-loop μ-loop
-loop-holds c = (refl, omega arith, rows-length (c .before .before .args .t1) (c .before .before .good .0), refl)
+loop-holds c =
+    let begun : tie.Start Inv-loop μ-loop = search in
+    (refl, omega arith, rows-length (begun .args .t1) (begun .good .0), refl)
 
 mul-old : tie.Need-mul-old Inv-loop μ-loop
 mul-old c = search needs
@@ -45,15 +50,20 @@ loop-less c = search needs
 
 loop-again : tie.Need-loop-again Inv-loop μ-loop
 loop-again c =
-    let own = c .before .before .before .before .before .before .args in
+    let begun : tie.Start Inv-loop μ-loop = search in
+    let own = begun .args in
     let k = c .before .before .before .loop in
-    (k .inv .0, omega arith, length-set (k .rows) (k .i) _ ∙ k .inv .2, rows-more (own .t1) (own .locked) (rows-length (own .t1) (c .before .before .before .before .before .before .good .0)) (k .i) (k .rows) _ (omega arith) (k .inv .2) (k .inv .3) (c .root-row .ensures))
+    let row = rows-more (own .t1) _ (rows-length (own .t1) (begun .good .0)) (k .i) (k .rows) _ (omega arith) (k .inv .2) (k .inv .3) (c .root-row .ensures) in
+    (k .inv .0, omega arith, length-set (k .rows) (k .i) _ ∙ k .inv .2, row)
 
 returns : tie.Need-returns Inv-loop μ-loop
+unfolding rootRows
 returns c =
-    let own = c .before .before .before .before .args in
+    let begun : tie.Start Inv-loop μ-loop = search in
+    let a = begun .args .t1 in
     let k = c .before .loop in
-    rows-all (own .t1) (own .locked) (rows-length (own .t1) (c .before .before .before .before .good .0)) (k .i) (k .rows) (omega arith) (k .inv .2) (k .inv .3)
+    let to = c .before .before .before .locked-by in
+    rows-all a (to .result) (rows-length a (begun .good .0)) (k .i) (k .rows) (omega arith) (k .inv .2) (k .inv .3) ∙ ap (rowsTo a) (to .ensures)
 
 pub root-rows-spec : {M : Type 1} → statement M
 root-rows-spec =
@@ -61,7 +71,8 @@ root-rows-spec =
     (tie.spec
     Inv-loop
     μ-loop
-    element-copy-out-root
+    element-copy-out-first
+    locked-by-requires
     loop-holds
     mul-old
     element-copy-out-old
