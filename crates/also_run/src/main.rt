@@ -16,9 +16,12 @@ use arm_edits::NewCoupling;
 use arm_edits::add_coupling;
 use arm_edits::set_spring;
 use arm_edits::write_row;
+use arm_split::part;
+use arm_split::split;
 use arm_views::Role;
 use arm_views::kinematic_branch;
 use arm_views::row_view;
+use full_working::empty;
 use libc::STDOUT_FILENO;
 use limits::BLOCK;
 use limits::COUPLINGS;
@@ -34,8 +37,6 @@ use multibody_joint::Spring;
 use numerals::bits_of;
 use one_link_move::Change;
 use one_link_move::move_link;
-use arm_split::part;
-use arm_split::split;
 use planar::Point;
 use planar::Pose;
 use planar::Rotation;
@@ -47,7 +48,6 @@ use topology::Split;
 use unit_multibody_joint::Limits;
 use unit_multibody_joint::limit_row;
 use whole_step::step;
-use full_working::empty;
 
 // ---- Words
 
@@ -320,7 +320,7 @@ fn ask_starts(masks: [u8; 4]) {
     print_status(answer.refusal);
     print(b"starts");
     print_bytes(&places);
-    print_number(b" total ", answer.count as usize);
+    print_number(b" total ", answer.count);
     print(b"\n");
 }
 
@@ -329,10 +329,10 @@ fn ask_masks(locked: u32, limit: u32, motor: u32) {
     let dofs = default_damping(locked, &mut damping);
     let constraints = num_velocity_constraints(locked, limit, motor);
     print_status(lower(dofs.refusal, constraints.refusal));
-    print_number(b"masks dofs ", dofs.count as usize);
-    print_number(b" constraints ", constraints.count as usize);
+    print_number(b"masks dofs ", dofs.count);
+    print_number(b" constraints ", constraints.count);
     print(b" damping");
-    print_floats(some_of(&damping, 0, dofs.count as usize));
+    print_floats(some_of(&damping, 0, dofs.count));
     print(b"\n");
 }
 

@@ -1,77 +1,53 @@
--- What an accepted edit knows: its link is there, its axis is one of three, a coupling has its place. Assumes nothing.
+-- What an accepted edit knows: its link is there, its axis is one of three, a coupling has its place. Each by its place in the list of tests.
+-- Assumes nothing.
 use Prim.Native.Nat.{ℕ, _≤_, _<_}
-use mathlib.Core.Path.{_≡_}
+use mathlib.Core.Path.{_≡_, refl}
 use mathlib.Core.Bool.{true, _&&_}
-use mathlib.Core.List.{List, _∷_}
+use mathlib.Core.Logic.{inl, inr}
 use native.Mathlib.Omega.{arith}
 use borrow.Author.Tests.{leb-true, ltb-true}
 use lib.Dec.{ltb}
 use lib.Ieee.{Float}
-use Rattle.refusal.proofs.Laws.{first-holds, rest-accepted}
+use Rattle.refusal.proofs.Laws.{is-lowest, holds-in}
 use Rattle.lists.proofs.Bools.{both-hold}
 use Rattle.limits.specs.Limits.{linkLimit, couplingLimit}
-use Rattle.refusal.specs.Refusal.{unlessOf}
-use Rattle.floats.specs.Floats.{isFinite}
 use Rattle.masks.specs.Masks.{isAxis, isFree}
 use Rattle.multibody_joint.specs.declared.Spring.{Spring}
 use Rattle.arm.specs.declared.Arm.{Arm}
 use Rattle.arm.specs.Arm.{isLink, maskAt}
-use Rattle.arm.specs.HandedIn.{armEntries}
+use Rattle.arm.specs.HandedIn.{armRefusal}
 use Rattle.arm.proofs.Accepted.{counts-accepted, Link-there, there}
 use Rattle.arm_edits.specs.declared.NewCoupling.{NewCoupling}
-use Rattle.arm_edits.specs.Rows.{writeRefusal}
-use Rattle.arm_edits.specs.Springs.{springFinite, springRefusal}
-use Rattle.arm_edits.specs.Couplings.{couplingRefusal}
+use Rattle.arm_edits.specs.Rows.{writeEntries, writeRefusal}
+use Rattle.arm_edits.specs.Springs.{springEntries, springRefusal}
+use Rattle.arm_edits.specs.Couplings.{couplingEntries, couplingRefusal}
 
 module _ (a : Arm) (link axis : ℕ) where
   module _ (value : Float) (e : writeRefusal a link axis value ≡ 0) where
-    link-on : List ℕ
-    link-on =
-        unlessOf (isAxis axis) 5
-        ∷ unlessOf (isFree (maskAt a link) axis) 6
-        ∷ unlessOf (isFinite value) 7
-        ∷ armEntries a
-
-    free-on : List ℕ
-    free-on = unlessOf (isFinite value) 7 ∷ armEntries a
-
     pub write-there : Link-there a link
-    unfolding writeRefusal link-on
+    unfolding writeRefusal
     write-there =
-        there a link (first-holds (isLink a link) 3 link-on e)
-        (rest-accepted (unlessOf (isFinite value) 7) (armEntries a)
-        (rest-accepted (unlessOf (isFree (maskAt a link) axis) 6) (unlessOf (isFinite value) 7 ∷ armEntries a)
-        (rest-accepted (unlessOf (isAxis axis) 5) (unlessOf (isFree (maskAt a link) axis) 6 ∷ unlessOf (isFinite value) 7 ∷ armEntries a)
-        (rest-accepted (unlessOf (isLink a link) 4) link-on e))))
+        let ks = writeEntries a link axis value in
+        there a link (holds-in ks e (isLink a link) 3 (inl refl)) (is-lowest ks .none e (armRefusal a) (inr (inr (inr (inr (inl refl))))))
 
     pub write-axis : axis ≤ 2
-    unfolding writeRefusal link-on free-on
-    write-axis =
-        leb-true axis 2
-        (first-holds (isAxis axis) 4 (unlessOf (isFree (maskAt a link) axis) 6 ∷ free-on) (rest-accepted (unlessOf (isLink a link) 4) link-on e))
+    unfolding writeRefusal
+    write-axis = leb-true axis 2 (holds-in (writeEntries a link axis value) e (isAxis axis) 4 (inr (inl refl)))
 
     pub write-free : isFree (maskAt a link) axis ≡ true
-    unfolding writeRefusal link-on free-on
-    write-free =
-        first-holds (isFree (maskAt a link) axis) 5 free-on
-        (rest-accepted (unlessOf (isAxis axis) 5) (unlessOf (isFree (maskAt a link) axis) 6 ∷ free-on)
-        (rest-accepted (unlessOf (isLink a link) 4) link-on e))
+    unfolding writeRefusal
+    write-free = holds-in (writeEntries a link axis value) e (isFree (maskAt a link) axis) 5 (inr (inr (inl refl)))
 
   module _ (s : Spring) (e : springRefusal a link axis s ≡ 0) where
     pub set-spring-there : Link-there a link
     unfolding springRefusal
     set-spring-there =
-        there a link (first-holds (isLink a link) 3 (unlessOf (isAxis axis) 5 ∷ unlessOf (springFinite s) 7 ∷ armEntries a) e)
-        (rest-accepted (unlessOf (springFinite s) 7) (armEntries a)
-        (rest-accepted (unlessOf (isAxis axis) 5) (unlessOf (springFinite s) 7 ∷ armEntries a)
-        (rest-accepted (unlessOf (isLink a link) 4) (unlessOf (isAxis axis) 5 ∷ unlessOf (springFinite s) 7 ∷ armEntries a) e)))
+        let ks = springEntries a link axis s in
+        there a link (holds-in ks e (isLink a link) 3 (inl refl)) (is-lowest ks .none e (armRefusal a) (inr (inr (inr (inl refl)))))
 
     pub set-spring-axis : axis ≤ 2
     unfolding springRefusal
-    set-spring-axis =
-        leb-true axis 2
-        (first-holds (isAxis axis) 4 (unlessOf (springFinite s) 7 ∷ armEntries a)
-        (rest-accepted (unlessOf (isLink a link) 4) (unlessOf (isAxis axis) 5 ∷ unlessOf (springFinite s) 7 ∷ armEntries a) e))
+    set-spring-axis = leb-true axis 2 (holds-in (springEntries a link axis s) e (isAxis axis) 4 (inr (inl refl)))
 
 -- an accepted coupling has a place, and its numbers are bytes
 pub record Coupling-fits (a : Arm) (c : NewCoupling) : Type 0 where
@@ -84,19 +60,14 @@ pub record Coupling-fits (a : Arm) (c : NewCoupling) : Type 0 where
 pub coupling-fits : (a : Arm) (c : NewCoupling) → couplingRefusal a c ≡ 0 → Coupling-fits a c
 unfolding couplingRefusal
 coupling-fits a c e =
-    let links = isLink a (c .link1) && isLink a (c .link2) in
-    let axes = isAxis (c .axis1) && isAxis (c .axis2) in
-    let own = unlessOf (isFinite (c .coefficient) && isFinite (c .offset)) 7 in
-    let from-links = rest-accepted (unlessOf (ltb (a .«coupling_count») couplingLimit) 2) (unlessOf links 4 ∷ unlessOf axes 5 ∷ own ∷ armEntries a) e in
-    let from-axes = rest-accepted (unlessOf links 4) (unlessOf axes 5 ∷ own ∷ armEntries a) from-links in
-    let from-arm = rest-accepted own (armEntries a) (rest-accepted (unlessOf axes 5) (own ∷ armEntries a) from-axes) in
-    let l = both-hold (isLink a (c .link1)) (isLink a (c .link2)) (first-holds links 3 (unlessOf axes 5 ∷ own ∷ armEntries a) from-links) in
-    let x = both-hold (isAxis (c .axis1)) (isAxis (c .axis2)) (first-holds axes 4 (own ∷ armEntries a) from-axes) in
-    let room = counts-accepted a from-arm .0 in
+    let ks = couplingEntries a c in
+    let l = both-hold (isLink a (c .link1)) (isLink a (c .link2)) (holds-in ks e (isLink a (c .link1) && isLink a (c .link2)) 3 (inr (inl refl))) in
+    let x = both-hold (isAxis (c .axis1)) (isAxis (c .axis2)) (holds-in ks e (isAxis (c .axis1) && isAxis (c .axis2)) 4 (inr (inr (inl refl)))) in
+    let room = counts-accepted a (is-lowest ks .none e (armRefusal a) (inr (inr (inr (inr (inl refl)))))) .0 in
     let l₁ = ltb-true (c .link1) (a .«link_count») (l .0) in
     let l₂ = ltb-true (c .link2) (a .«link_count») (l .1) in
     record {
-      place = ltb-true (a .«coupling_count») couplingLimit (first-holds (ltb (a .«coupling_count») couplingLimit) 1 (unlessOf links 4 ∷ unlessOf axes 5 ∷ own ∷ armEntries a) e);
+      place = ltb-true (a .«coupling_count») couplingLimit (holds-in ks e (ltb (a .«coupling_count») couplingLimit) 1 (inl refl));
       first = omega arith;
       second = omega arith;
       axis-first = leb-true (c .axis1) 2 (x .0);

@@ -15,7 +15,9 @@ use Rattle.lists.specs.Lists.{modify}
 use Rattle.limits.specs.Limits.{couplingLimit}
 use Rattle.masks.specs.Starts.{totalOf}
 use Rattle.multibody_joint.specs.declared.Spring.{Spring}
-use Rattle.multibody_joint.specs.Springs.{withSpring, springSet}
+use Rattle.multibody_joint.specs.declared.Joint.{Joint}
+use Rattle.multibody_joint.specs.Joint.{withSprings}
+use Rattle.multibody_joint.specs.Springs.{springSet}
 use Rattle.arm.specs.declared.Link.{Link}
 use Rattle.arm.specs.declared.Coupling.{Coupling}
 use Rattle.arm.specs.declared.Row.{Row}
@@ -24,7 +26,7 @@ use Rattle.arm.specs.declared.Arm.{Arm}
 use Rattle.arm.specs.Arm.{liveLinks, linksOf, couplingsOf, lockedOf, masksOf, dofCountOf, rowNumber, entriesTo, rowsOf}
 use Rattle.arm.specs.Edits.{dofAt}
 use Rattle.arm.specs.Agree.{Agree, AlikeEdited}
-use Rattle.arm.proofs.Agree.{same-mask-at, same-dof-at, same-entries, alike}
+use Rattle.arm.proofs.Agree.{same-mask-at, same-dof-at, same-arm-refusal, alike}
 use Rattle.arm_edits.specs.declared.NewCoupling.{NewCoupling}
 use Rattle.arm_edits.specs.Rows.{writeRefusal, entrySet, withEntry, rowWritten}
 use Rattle.arm_edits.specs.Springs.{springRefusal, linkSpringSet, withLinkSpring, armSpringSet}
@@ -52,7 +54,7 @@ rows-written a name link axis v =
 module _ (a b : Arm) (g : Agree a b) where
   same-write-refusal : (link axis : ℕ) (v : Float) → writeRefusal a link axis v ≡ writeRefusal b link axis v
   unfolding writeRefusal
-  same-write-refusal link axis v = rw (same-entries a b g, same-mask-at a b g link, g .link-count)
+  same-write-refusal link axis v = rw (same-arm-refusal a b g, same-mask-at a b g link, g .link-count)
 
   agree-written : (name : RowName) (link axis : ℕ) (v : Float) → Agree (withEntry a name link axis v) (withEntry b name link axis v)
   unfolding withEntry linksOf couplingsOf
@@ -74,11 +76,11 @@ module _ (a b : Arm) (g : Agree a b) where
 
 locked-kept : (axis : ℕ) (s : Spring) (l : Link) → lockedOf (linkSpringSet axis s l) ≡ lockedOf l
 unfolding linkSpringSet springSet
-locked-kept axis s l = by-axis (leb axis 2)
+locked-kept axis s l = by-axis (leb axis 2) (withSprings (l .joint) (set (l .joint .stiffness) axis (s .stiffness)) (set (l .joint .rest) axis (s .rest))) refl
   where
-    by-axis : (t : Bool) → _≡_ {A = ℕ} ((cond t (withSpring (l .joint) axis s) (l .joint)) .locked) (l .joint .locked)
-    by-axis true = refl
-    by-axis false = refl
+    by-axis : (t : Bool) (new : Joint) → new .locked ≡ l .joint .locked → (cond t new (l .joint)) .locked ≡ l .joint .locked
+    by-axis true new h = h
+    by-axis false new h = refl
 
 links-sprung : (a : Arm) (link axis : ℕ) (s : Spring) → linksOf (withLinkSpring a link axis s) ≡ modify (linkSpringSet axis s) link (linksOf a)
 unfolding withLinkSpring linksOf
@@ -96,7 +98,7 @@ rows-sprung a link axis s = ap (λ (ms : List ℕ). map (entriesTo (totalOf ms))
 module _ (a b : Arm) (g : Agree a b) where
   same-set-spring-refusal : (link axis : ℕ) (s : Spring) → springRefusal a link axis s ≡ springRefusal b link axis s
   unfolding springRefusal
-  same-set-spring-refusal link axis s = rw (same-entries a b g, g .link-count)
+  same-set-spring-refusal link axis s = rw (same-arm-refusal a b g, g .link-count)
 
   agree-sprung : (link axis : ℕ) (s : Spring) → Agree (withLinkSpring a link axis s) (withLinkSpring b link axis s)
   unfolding withLinkSpring couplingsOf
@@ -126,7 +128,7 @@ couplings-more a c w h =
 module _ (a b : Arm) (g : Agree a b) where
   same-coupling-refusal : (c : NewCoupling) → couplingRefusal a c ≡ couplingRefusal b c
   unfolding couplingRefusal
-  same-coupling-refusal c = rw (same-entries a b g, g .link-count, g .coupling-count)
+  same-coupling-refusal c = rw (same-arm-refusal a b g, g .link-count, g .coupling-count)
 
   agree-coupled : (c : NewCoupling) → Sized a → Sized b → couplingRefusal a c ≡ 0 → Agree (withCoupling a c) (withCoupling b c)
   unfolding withCoupling linksOf rowsOf dofCountOf masksOf

@@ -25,7 +25,7 @@ use limits::COUPLINGS;
 use masks::is_axis;
 use masks::is_free;
 use multibody_joint::Spring;
-use refusal::lower;
+use refusal::lowest;
 use refusal::unless;
 
 // ---- Row writes
@@ -46,16 +46,14 @@ fn write_refusal(arm: Arm, handed: HandedIn, link: u32, axis: u32, value: f32) -
 {
     let masks = handed.masks;
     let mask = mask_among(masks, arm.link_count, link as usize);
-    lower(
+    let refusals = [
         unless((link as usize) < arm.link_count, 4),
-        lower(
-            unless(is_axis(axis), 5),
-            lower(
-                unless(axis_is_free(mask, axis), 6),
-                lower(unless(finite(value), 7), handed.refusal),
-            ),
-        ),
-    )
+        unless(is_axis(axis), 5),
+        unless(axis_is_free(mask, axis), 6),
+        unless(finite(value), 7),
+        handed.refusal,
+    ];
+    lowest(&refusals)
 }
 
 fn with_entry(row: Row, at: usize, value: f32) -> Row
@@ -95,13 +93,13 @@ fn is_finite_spring(s: Spring) -> bool
 fn spring_refusal(arm: Arm, link: u32, axis: u32, spring: Spring) -> u8
     ensures { λ r. ⌜ r ≡ springRefusal arm link axis spring ⌝ }
 {
-    lower(
+    let refusals = [
         unless((link as usize) < arm.link_count, 4),
-        lower(
-            unless(is_axis(axis), 5),
-            lower(unless(is_finite_spring(spring), 7), arm_refusal(arm)),
-        ),
-    )
+        unless(is_axis(axis), 5),
+        unless(is_finite_spring(spring), 7),
+        arm_refusal(arm),
+    ];
+    lowest(&refusals)
 }
 
 fn with_spring(l: Link, axis: u8, spring: Spring) -> Link
@@ -145,19 +143,14 @@ fn coupling_refusal(arm: Arm, c: NewCoupling) -> u8
     ensures { λ r. ⌜ r ≡ couplingRefusal arm c ⌝ }
 {
     let n = arm.link_count;
-    lower(
+    let refusals = [
         unless(arm.coupling_count < COUPLINGS, 2),
-        lower(
-            unless(((c.link1 as usize) < n) & ((c.link2 as usize) < n), 4),
-            lower(
-                unless(is_axis(c.axis1) & is_axis(c.axis2), 5),
-                lower(
-                    unless(finite(c.coefficient) & finite(c.offset), 7),
-                    arm_refusal(arm),
-                ),
-            ),
-        ),
-    )
+        unless(((c.link1 as usize) < n) & ((c.link2 as usize) < n), 4),
+        unless(is_axis(c.axis1) & is_axis(c.axis2), 5),
+        unless(finite(c.coefficient) & finite(c.offset), 7),
+        arm_refusal(arm),
+    ];
+    lowest(&refusals)
 }
 
 // Adds a coupling at the end of the list. A locked axis may be coupled.

@@ -7,8 +7,6 @@ use lib.ListN.{length, take, getD}
 use lib.Seq.{getD-take}
 use lib.Ieee.{Float}
 use Rattle.lists.proofs.Lists.{map-at}
-use Rattle.refusal.specs.Counted.{countedOf}
-use Rattle.refusal.specs.declared.Counted.{Counted}
 use Rattle.limits.specs.Limits.{linkLimit}
 use Rattle.multibody_joint.specs.declared.Spring.{Spring}
 use Rattle.arm.specs.declared.Link.{Link}
@@ -43,15 +41,3 @@ axes-none n (suc k) x q p h e = absurd (omega arith)
 pub axes-some : (n k : ℕ) (x : List Float) → n ≡ k → (n ≡ 0 → ⊥) → _≡_ {A = AxesAnswer} (record { refusal = n; axes = zeros }) (axesBy k x)
 axes-some n zero x p h = absurd (h p)
 axes-some n (suc k) x p h = rw p
-
--- ---- counts
-
-pub count-none : (n k c m : ℕ) → n ≡ k → n ≡ 0 → c ≡ m → _≡_ {A = Counted} (record { refusal = 0; count = c }) (countedOf k m)
-unfolding countedOf
-count-none n zero c m p h e = rw e
-count-none n (suc k) c m p h e = absurd (omega arith)
-
-pub count-some : (n k m : ℕ) → n ≡ k → (n ≡ 0 → ⊥) → _≡_ {A = Counted} (record { refusal = n; count = 0 }) (countedOf k m)
-unfolding countedOf
-count-some n zero m p h = absurd (h p)
-count-some n (suc k) m p h = rw p

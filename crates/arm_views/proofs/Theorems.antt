@@ -16,7 +16,7 @@ use Rattle.arm.specs.declared.Arm.{Arm}
 use Rattle.arm.specs.Arm.{maskAt, startAt}
 use Rattle.arm.specs.Edits.{dofAt}
 use Rattle.arm.specs.Agree.{Agree}
-use Rattle.arm.proofs.Agree.{same-parents, same-mask-at, same-start, same-dofs, same-entries, same-arm-refusal}
+use Rattle.arm.proofs.Agree.{same-parents, same-mask-at, same-start, same-dofs, same-arm-refusal}
 use Rattle.arm_views.specs.declared.Role.{Role}
 use Rattle.arm_views.specs.declared.Role.the-variants.{Velocities, Accelerations}
 use Rattle.arm_views.specs.Numbers.{startEntries, startRefusal, startAnswer, dofsAnswer}
@@ -86,23 +86,23 @@ view-own a role link v w s z =
 module _ (a b : Arm) (g : Agree a b) where
   pub branch-same : (link : ℕ) (m : List ℕ) → armBranch a link m ≡ armBranch b link m
   unfolding armBranch branchRefusal branchNeeded
-  branch-same link m = cc (same-entries a b g, same-parents a b g)
+  branch-same link m = cc (same-arm-refusal a b g, same-parents a b g)
 
   pub view-same : (role : Role) (link : ℕ) (v w : List Float) → viewAnswer a role link v w ≡ viewAnswer b role link v w
   unfolding viewAnswer viewRefusal ownPart
-  view-same role link v w = cc (same-entries a b g, same-mask-at a b g link, same-start a b g link, same-dofs a b g)
+  view-same role link v w = cc (same-arm-refusal a b g, same-mask-at a b g link, same-start a b g link, same-dofs a b g)
 
   pub spring-same : (link axis : ℕ) → springAnswer a link axis ≡ springAnswer b link axis
   unfolding springAnswer springRefusal
-  spring-same link axis = cc (same-entries a b g)
+  spring-same link axis = cc (same-arm-refusal a b g)
 
   pub mul-same : (link : ℕ) (accelerations : List Float) → mulAnswer a link accelerations ≡ mulAnswer b link accelerations
   unfolding mulAnswer mulRefusal
-  mul-same link accelerations = cc (same-entries a b g, same-mask-at a b g link)
+  mul-same link accelerations = cc (same-arm-refusal a b g, same-mask-at a b g link)
 
   pub start-same : (link : ℕ) → startAnswer a link ≡ startAnswer b link
   unfolding startAnswer startRefusal
-  start-same link = rw (same-entries a b g, same-start a b g link, g .link-count)
+  start-same link = rw (same-arm-refusal a b g, same-start a b g link, g .link-count)
 
   pub dofs-same : dofsAnswer a ≡ dofsAnswer b
   unfolding dofsAnswer

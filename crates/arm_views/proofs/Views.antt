@@ -1,25 +1,25 @@
 -- A row view, accepted or refused, from what its parts give: an accepted one's part lies within both rows. Assumes nothing.
 use Prim.Native.Nat.{ℕ, zero, suc, _+_, _-_, _≤_}
-use mathlib.Core.Path.{_≡_, ap, _∙_}
+use mathlib.Core.Path.{_≡_, refl, ap, _∙_}
 use mathlib.Core.Bool.{_&&_}
-use mathlib.Core.List.{List, [], _∷_}
+use mathlib.Core.Logic.{inl, inr}
+use mathlib.Core.List.{List, []}
 use native.Mathlib.Omega.{arith}
 use borrow.Author.Tests.{leb-true, ltb-true}
 use lib.Dec.{leb}
 use lib.ListN.{length, take, drop}
 use lib.Ieee.{Float}
-use Rattle.refusal.proofs.Laws.{first-holds, rest-accepted}
+use Rattle.refusal.proofs.Laws.{is-lowest, holds-in}
 use Rattle.lists.proofs.Bools.{both-hold}
 use Rattle.limits.specs.Limits.{linkLimit, dofLimit}
-use Rattle.refusal.specs.Refusal.{unlessOf}
 use Rattle.masks.specs.Masks.{dofsOf}
 use Rattle.arm.specs.declared.Arm.{Arm}
 use Rattle.arm.specs.Arm.{isLink, maskAt, startAt, dofCountOf}
-use Rattle.arm.specs.HandedIn.{armEntries}
+use Rattle.arm.specs.HandedIn.{armRefusal}
 use Rattle.arm.proofs.Accepted.{counts-accepted}
 use Rattle.arm.proofs.Live.{part-within, dof-count-le}
 use Rattle.arm_views.specs.declared.Role.{Role}
-use Rattle.arm_views.specs.View.{seen, rowOf, ownPart, viewRefusal, viewBy, viewAnswer}
+use Rattle.arm_views.specs.View.{seen, rowOf, ownPart, viewEntries, viewRefusal, viewBy, viewAnswer}
 
 -- the part's end lies within both rows
 pub record Within (a : Arm) (link v w : ℕ) : Type 0 where
@@ -30,11 +30,11 @@ pub record Within (a : Arm) (link v w : ℕ) : Type 0 where
 pub view-within : (a : Arm) (link v w : ℕ) → length (a .links) ≡ linkLimit → viewRefusal a link v w ≡ 0 → Within a link v w
 unfolding viewRefusal
 view-within a link v w l e =
+    let ks = viewEntries a link v w in
     let rooms = leb (dofCountOf a) v && leb (dofCountOf a) w in
-    let both = both-hold (leb (dofCountOf a) v) (leb (dofCountOf a) w) (first-holds rooms 0 (unlessOf (isLink a link) 4 ∷ armEntries a) e) in
-    let on = rest-accepted (unlessOf rooms 1) (unlessOf (isLink a link) 4 ∷ armEntries a) e in
-    let below = ltb-true link (a .«link_count») (first-holds (isLink a link) 3 (armEntries a) on) in
-    let room = counts-accepted a (rest-accepted (unlessOf (isLink a link) 4) (armEntries a) on) .0 in
+    let both = both-hold (leb (dofCountOf a) v) (leb (dofCountOf a) w) (holds-in ks e rooms 0 (inl refl)) in
+    let below = ltb-true link (a .«link_count») (holds-in ks e (isLink a link) 3 (inr (inl refl))) in
+    let room = counts-accepted a (is-lowest ks .none e (armRefusal a) (inr (inr (inl refl)))) .0 in
     let part = part-within a l link (omega arith) in
     let h₁ = leb-true (dofCountOf a) v (both .0) in
     let h₂ = leb-true (dofCountOf a) w (both .1) in

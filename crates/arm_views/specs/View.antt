@@ -9,7 +9,7 @@ use Rattle.refusal.specs.Refusal.{unlessOf, lowest}
 use Rattle.masks.specs.Masks.{dofsOf}
 use Rattle.arm.specs.declared.Arm.{Arm}
 use Rattle.arm.specs.Arm.{isLink, maskAt, startAt, dofCountOf}
-use Rattle.arm.specs.HandedIn.{armEntries}
+use Rattle.arm.specs.HandedIn.{armRefusal}
 use Rattle.arm_views.specs.declared.Role.{Role}
 use Rattle.arm_views.specs.declared.Role.the-variants.{Velocities, Accelerations}
 
@@ -35,7 +35,8 @@ abbrev pub viewEntries : Arm → ℕ → ℕ → ℕ → List ℕ
 viewEntries a link velocities accelerations =
     unlessOf (leb (dofCountOf a) velocities && leb (dofCountOf a) accelerations) 1
     ∷ unlessOf (isLink a link) 4
-    ∷ armEntries a
+    ∷ armRefusal a
+    ∷ []
 
 unfoldable pub viewRefusal : Arm → ℕ → ℕ → ℕ → ℕ
 viewRefusal a link velocities accelerations = lowest (viewEntries a link velocities accelerations)

@@ -1,9 +1,7 @@
 // What is read of an arm: starts, springs, accelerations on their axes, the branch of a link, a link's own part of a row. Each is an entry
 // point: links and axes are any numbers, the arm handed in is tested, and the lowest refusal of all is given.
 ghost use mathlib.Core.Path.{_≡_};
-ghost use lib.ListN.{take};
 ghost use Rattle.refusal.specs.Counted.{out};
-ghost use Rattle.floats.specs.Floats.{allFinite};
 ghost use Rattle.arm_views.specs.Numbers.{startRefusal, startAnswer, dofsAnswer};
 ghost use Rattle.arm_views.specs.Links.{springRefusal, springAnswer, mulRefusal, mulAnswer};
 ghost use Rattle.arm_views.specs.Branch.{branchNeeded, branchRefusal, armBranch};
@@ -15,52 +13,39 @@ use arm::live_links;
 use arm::mask_at;
 use arm::parents_of;
 use arm::start_of;
-use floats::all_finite;
-use masks::Count;
+use floats::is_finite_part;
 use masks::dofs;
 use masks::is_axis;
 use multibody_joint::Spring;
-use refusal::lower;
+use refusal::Counted;
+use refusal::answer_count;
+use refusal::lowest;
 use refusal::unless;
-use topology::Counted;
 
 // ---- Starts
 
 fn start_refusal(arm: Arm, link: u32) -> u8
     ensures { λ r. ⌜ r ≡ startRefusal arm link ⌝ }
 {
-    lower(
+    let refusals = [
         unless((link as usize) < arm.link_count, 4),
         arm_refusal(arm),
-    )
+    ];
+    lowest(&refusals)
 }
 
 // The start of a link.
-pub fn link_start(arm: Arm, link: u32) -> Count
+pub fn link_start(arm: Arm, link: u32) -> Counted
     ensures { λ r. ⌜ r ≡ startAnswer arm link ⌝ }
 {
-    let refusal = start_refusal(arm, link);
-    if refusal != 0 {
-        return Count { refusal, count: 0 };
-    }
-    Count {
-        refusal: 0,
-        count: start_of(arm, link as usize) as u8,
-    }
+    answer_count(start_refusal(arm, link), start_of(arm, link as usize))
 }
 
 // The DoF count of an arm.
-pub fn arm_dofs(arm: Arm) -> Count
+pub fn arm_dofs(arm: Arm) -> Counted
     ensures { λ r. ⌜ r ≡ dofsAnswer arm ⌝ }
 {
-    let refusal = arm_refusal(arm);
-    if refusal != 0 {
-        return Count { refusal, count: 0 };
-    }
-    Count {
-        refusal: 0,
-        count: dof_count(arm) as u8,
-    }
+    answer_count(arm_refusal(arm), dof_count(arm))
 }
 
 // ---- Springs
@@ -68,10 +53,12 @@ pub fn arm_dofs(arm: Arm) -> Count
 fn spring_refusal(arm: Arm, link: u32, axis: u32) -> u8
     ensures { λ r. ⌜ r ≡ springRefusal arm link axis ⌝ }
 {
-    lower(
+    let refusals = [
         unless((link as usize) < arm.link_count, 4),
-        lower(unless(is_axis(axis), 5), arm_refusal(arm)),
-    )
+        unless(is_axis(axis), 5),
+        arm_refusal(arm),
+    ];
+    lowest(&refusals)
 }
 
 #[repr(C)]
@@ -104,27 +91,17 @@ pub fn spring(arm: Arm, link: u32, axis: u32) -> SpringAnswer
 
 // ---- Accelerations on their axes
 
-// Are the first n floats finite, or all where there are fewer?
-fn first_finite(s: &[f32], n: usize) -> bool
-    ensures { λ r. ⌜ r ≡ allFinite (take n (now (s .entry))) ⌝ }
-{
-    if n <= s.len() {
-        return all_finite(&s[0..n]);
-    }
-    all_finite(s)
-}
-
 fn mul_refusal(arm: Arm, link: u32, accelerations: &[f32]) -> u8
     ensures { λ r. ⌜ r ≡ mulRefusal arm link (now (accelerations .entry)) ⌝ }
 {
     let n = dofs(mask_at(arm, link as usize));
-    lower(
+    let refusals = [
         unless(n <= accelerations.len(), 1),
-        lower(
-            unless((link as usize) < arm.link_count, 4),
-            lower(unless(first_finite(accelerations, n), 7), arm_refusal(arm)),
-        ),
-    )
+        unless((link as usize) < arm.link_count, 4),
+        unless(is_finite_part(accelerations, 0, n), 7),
+        arm_refusal(arm),
+    ];
+    lowest(&refusals)
 }
 
 #[repr(C)]
@@ -166,13 +143,12 @@ fn branch_needed(arm: Arm, link: usize) -> usize
 fn branch_refusal(arm: Arm, link: u32, room: usize) -> u8
     ensures { λ r. ⌜ r ≡ branchRefusal arm link room ⌝ }
 {
-    lower(
+    let refusals = [
         unless(branch_needed(arm, link as usize) <= room, 1),
-        lower(
-            unless((link as usize) < arm.link_count, 4),
-            arm_refusal(arm),
-        ),
-    )
+        unless((link as usize) < arm.link_count, 4),
+        arm_refusal(arm),
+    ];
+    lowest(&refusals)
 }
 
 // The links from the root to a link, a byte each, written into lent memory, with their count.
@@ -200,13 +176,12 @@ fn view_refusal(arm: Arm, link: u32, velocities: usize, accelerations: usize) ->
     ensures { λ r. ⌜ r ≡ viewRefusal arm link velocities accelerations ⌝ }
 {
     let n = dof_count(arm);
-    lower(
+    let refusals = [
         unless((n <= velocities) & (n <= accelerations), 1),
-        lower(
-            unless((link as usize) < arm.link_count, 4),
-            arm_refusal(arm),
-        ),
-    )
+        unless((link as usize) < arm.link_count, 4),
+        arm_refusal(arm),
+    ];
+    lowest(&refusals)
 }
 
 // A link's own part of the velocities or of the accelerations. The number goes out through `refusal`; refused, the part is empty. No lent float

@@ -1,7 +1,7 @@
 // The entry points that give an arm, the rotation and the solve, as C functions for Rust. Each is its entry point and nothing more: the contract cites
 // the same definition; the solve's refusal has a count beside it. An arm goes in and comes out by value; what an enum names is a function for each case.
 ghost use mathlib.Core.Path.{_≡_};
-ghost use Rattle.refusal.specs.Counted.{countedOf};
+ghost use Rattle.refusal.specs.Counted.{out as solved};
 ghost use Rattle.planar.specs.Rotation.{rotated};
 ghost use Rattle.solve.specs.Solve.{solveOf};
 ghost use Rattle.topology.specs.declared.Split.the-variants.{Delete, Cut};
@@ -17,22 +17,23 @@ ghost use Rattle.one_link_move.specs.Move.{linkMoved};
 ghost use Rattle.whole_step.specs.Step.{wholeStep};
 ghost use Rattle.root_change.specs.Root.{changedRoot};
 ghost use Rattle.arm_split.specs.Answers.{armPart};
-ghost use Rattle.exports.specs.Solved.{solved, solvedBy};
+ghost use Rattle.exports.specs.Solved.{solvedBy};
 use addition::NewLink;
 use arm::Arm;
 use arm::Edited;
 use arm::RowName;
 use arm_edits::NewCoupling;
 use arm_edits::write_row;
+use arm_split::part;
 use multibody_joint::Spring;
 use one_link_move::Change;
 use one_link_move::move_link;
-use arm_split::part;
 use planar::Point;
 use planar::Pose;
 use planar::Rotated;
+use refusal::Counted;
+use refusal::answer_count;
 use root_change::change_root;
-use topology::Counted;
 use topology::Split;
 
 // ---- Numbers
@@ -43,16 +44,6 @@ pub extern "C" fn giellavor_rotate(angle: f32) -> Rotated
     ensures { λ r. ⌜ r ≡ rotated angle ⌝ }
 {
     planar::rotate(angle)
-}
-
-// The count, unless there is a refusal.
-fn answer(refusal: u8, count: usize) -> Counted
-    ensures { λ r. ⌜ r ≡ countedOf refusal count ⌝ }
-{
-    if refusal == 0 {
-        return Counted { refusal, count };
-    }
-    Counted { refusal, count: 0 }
 }
 
 // The solve of an n by n matrix, in rows, against a right side; the solution goes into the first n floats of `result`, and n is returned. Refused: 1, 2, 7,
@@ -66,7 +57,7 @@ pub extern "C" fn giellavor_solve(
 ) -> Counted
     ensures { λ r. ⌜ solved r (now (result .exit)) ≡ solvedBy n (solveOf n (now (matrix .entry)) (now (right .entry)) (now (result .entry))) ⌝ }
 {
-    answer(solve::solve(n, matrix, right, result), n)
+    answer_count(solve::solve(n, matrix, right, result), n)
 }
 
 // ---- Making an arm

@@ -15,15 +15,14 @@ ghost use Rattle.fill_jacobians.specs.Fill.{fillAnswer};
 ghost use Rattle.exports_views.specs.Place.{placeOf};
 use arm::Arm;
 use arm::start_of;
+use arm_split::split;
 use arm_views::AxesAnswer;
 use arm_views::Role;
 use arm_views::SpringAnswer;
 use arm_views::row_view;
 use fill_jacobians::Force;
 use fill_jacobians::Sums;
-use masks::Count;
-use arm_split::split;
-use topology::Counted;
+use refusal::Counted;
 use topology::Split;
 use unit_multibody_joint::ConstraintRow;
 use unit_multibody_joint::Limits;
@@ -32,7 +31,7 @@ use unit_multibody_joint::Limits;
 
 // Is an axis of a mask free? The count is 1 or 0. Refused: 5.
 #[no_mangle]
-pub extern "C" fn giellavor_free_axis(mask: u32, axis: u32) -> Count
+pub extern "C" fn giellavor_free_axis(mask: u32, axis: u32) -> Counted
     ensures { λ r. ⌜ r ≡ freeAnswer mask axis ⌝ }
 {
     masks::free_axis(mask, axis)
@@ -40,7 +39,7 @@ pub extern "C" fn giellavor_free_axis(mask: u32, axis: u32) -> Count
 
 // The DoFs of a mask below an axis. Refused: 5.
 #[no_mangle]
-pub extern "C" fn giellavor_dof_count_below(mask: u32, axis: u32) -> Count
+pub extern "C" fn giellavor_dof_count_below(mask: u32, axis: u32) -> Counted
     ensures { λ r. ⌜ r ≡ belowAnswer mask axis ⌝ }
 {
     masks::dof_count_below(mask, axis)
@@ -58,7 +57,7 @@ pub extern "C" fn giellavor_branch(parents: &[u8], link: u32, to: &mut [u8]) -> 
 
 // The start of a link. Refused: 2 to 5, 7, 9.
 #[no_mangle]
-pub extern "C" fn giellavor_link_start(arm: Arm, link: u32) -> Count
+pub extern "C" fn giellavor_link_start(arm: Arm, link: u32) -> Counted
     ensures { λ r. ⌜ r ≡ startAnswer arm link ⌝ }
 {
     arm_views::link_start(arm, link)
@@ -66,7 +65,7 @@ pub extern "C" fn giellavor_link_start(arm: Arm, link: u32) -> Count
 
 // The DoF count of an arm. Refused: 2 to 5, 7, 9.
 #[no_mangle]
-pub extern "C" fn giellavor_arm_dofs(arm: Arm) -> Count
+pub extern "C" fn giellavor_arm_dofs(arm: Arm) -> Counted
     ensures { λ r. ⌜ r ≡ dofsAnswer arm ⌝ }
 {
     arm_views::arm_dofs(arm)

@@ -3,7 +3,7 @@ use Prim.Native.Nat.{ℕ}
 use mathlib.Core.List.{[], _∷_}
 use lib.ListN.{replicate}
 use lib.Ieee.{Float}
-use Rattle.refusal.specs.declared.Counted.{Counted, Counted}
+use Rattle.refusal.specs.declared.Counted.{Counted}
 use Rattle.limits.specs.Limits.{linkLimit, couplingLimit, dofLimit}
 use Rattle.addition.specs.declared.NewLink.{NewLink}
 use Rattle.arm.specs.declared.Arm.{Arm}
@@ -70,9 +70,6 @@ laidEdited refusal arm = record { refusal = refusal; arm = arm }
 
 abbrev pub laidRotated : ℕ → Rotation → Rotated
 laidRotated refusal rotation = record { refusal = refusal; rotation = rotation }
-
-abbrev pub laidCount : ℕ → ℕ → Counted
-laidCount refusal count = record { refusal = refusal; count = count }
 
 abbrev pub laidCounted : ℕ → ℕ → Counted
 laidCounted refusal count = record { refusal = refusal; count = count }

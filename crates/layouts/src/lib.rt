@@ -1,6 +1,6 @@
 // Every struct that crosses the C boundary, made of its fields: what the tests of the layouts in Rust and C call.
 ghost use mathlib.Core.Path.{_≡_};
-ghost use Rattle.layouts.specs.Laid.{laidRotation, laidPoint, laidPose, laidJoint, laidSpring, laidLink, laidCoupling, laidRow, laidArm, laidNewLink, laidNewCoupling, laidLimits, laidForce, laidEdited, laidRotated, laidCount, laidCounted, laidRowPart, laidSpringAnswer, laidAxesAnswer, laidConstraintRow, laidSums};
+ghost use Rattle.layouts.specs.Laid.{laidRotation, laidPoint, laidPose, laidJoint, laidSpring, laidLink, laidCoupling, laidRow, laidArm, laidNewLink, laidNewCoupling, laidLimits, laidForce, laidEdited, laidRotated, laidCounted, laidRowPart, laidSpringAnswer, laidAxesAnswer, laidConstraintRow, laidSums};
 use addition::NewLink;
 use arm::Arm;
 use arm::Coupling;
@@ -16,14 +16,13 @@ use fill_jacobians::Sums;
 use limits::COUPLINGS;
 use limits::DOFS;
 use limits::LINKS;
-use masks::Count;
 use multibody_joint::Joint;
 use multibody_joint::Spring;
 use planar::Point;
 use planar::Pose;
 use planar::Rotated;
 use planar::Rotation;
-use topology::Counted;
+use refusal::Counted;
 use unit_multibody_joint::ConstraintRow;
 use unit_multibody_joint::Limits;
 
@@ -248,13 +247,6 @@ pub extern "C" fn giellavor_layout_rotated(refusal: u8, rotation: Rotation) -> R
     ensures { λ r. ⌜ r ≡ laidRotated refusal rotation ⌝ }
 {
     Rotated { refusal, rotation }
-}
-
-#[no_mangle]
-pub extern "C" fn giellavor_layout_count(refusal: u8, count: u8) -> Count
-    ensures { λ r. ⌜ r ≡ laidCount refusal count ⌝ }
-{
-    Count { refusal, count }
 }
 
 #[no_mangle]

@@ -11,11 +11,10 @@ use lib.ListN.{length, take, drop, length-append, length-take}
 use lib.Seq.{take-at}
 use lib.Ieee.{Float}
 use Rattle.lists.specs.Lists.{laid}
-use Rattle.refusal.specs.Counted.{Outcome, countedOf, filled}
+use Rattle.refusal.specs.Counted.{Outcome, countedOf, out, filled}
 use Rattle.refusal.specs.declared.Counted.{Counted}
 use Rattle.masks.specs.Masks.{dofsOf, dampingRow}
 use Rattle.masks.specs.Answers.{dampingRefusal, dampingAnswer}
-use Rattle.masks.specs.Answers as masks
 use Rattle.masks.proofs.Laws.{dofs-le}
 use Rattle.masks.proofs.Fills.{length-damping}
 use Rattle.masks.proofs.Answers.{damping-fits}
@@ -43,7 +42,7 @@ three-long k room x e =
     length-take (k - 0) (x ∷ x ∷ x ∷ []) ∙ least
 
 module _ (n : ℕ) (row old part : List Float) (a : Counted) (long : length row ≡ n) where
-  count-within : (k : ℕ) → masks.out a part ≡ filled k n row old → (k ≡ 0 → n ≤ length old) → (a .count ≤ length old) × (a .count ≤ length part)
+  count-within : (k : ℕ) → out a part ≡ filled k n row old → (k ≡ 0 → n ≤ length old) → (a .count ≤ length old) × (a .count ≤ length part)
   unfolding filled countedOf
   count-within zero e h =
       let memory : part ≡ row ++ drop (length row) old = ap (λ (o : Outcome Float). o .memory) e in
@@ -52,8 +51,8 @@ module _ (n : ℕ) (row old part : List Float) (a : Counted) (long : length row 
   count-within (suc k) e h = rw (ap (λ (o : Outcome Float). o .answer .count) e) (omega arith, omega arith)
 
   -- the floats that were laid over a row are written; a refusal writes none
-  as-bytes : (k : ℕ) → masks.out a part ≡ filled k n row old → (rest : List Float) (lent bytes : List ℕ)
-      → bytes ≡ laid (bytesOf (take (a .count) (part ++ rest))) lent → masks.out a bytes ≡ filled k n (bytesOf row) lent
+  as-bytes : (k : ℕ) → out a part ≡ filled k n row old → (rest : List Float) (lent bytes : List ℕ)
+      → bytes ≡ laid (bytesOf (take (a .count) (part ++ rest))) lent → out a bytes ≡ filled k n (bytesOf row) lent
   unfolding filled countedOf bytesOf
   as-bytes zero e rest lent bytes q =
       let answer : a ≡ countedOf 0 n = ap (λ (o : Outcome Float). o .answer) e in
@@ -67,7 +66,7 @@ module _ (n : ℕ) (row old part : List Float) (a : Counted) (long : length row 
 
 -- the call over a row of floats, with room for as many as the lent bytes have, and three at most
 module _ (mask : ℕ) (lent : List ℕ) (old part rest : List Float) (a : Counted) (room : length old ≡ min (length lent / 4) 3)
-    (e : masks.out a part ≡ dampingAnswer mask old) where
+    (e : out a part ≡ dampingAnswer mask old) where
   fits : (a .count ≤ length old) × (a .count ≤ length part)
   unfolding dampingAnswer
   fits = count-within (dofsOf mask) (dampingRow mask) old part a (length-row mask) (dampingRefusal mask (length old)) e (damping-fits mask (length old))
@@ -79,7 +78,7 @@ module _ (mask : ℕ) (lent : List ℕ) (old part rest : List Float) (a : Counte
   bytes-fit = omega (arith, fits, length-take (a .count - 0) (part ++ rest))
 
   pub as-written : (bytes : List ℕ) → bytes ≡ laid (bytesOf (take (a .count - 0) (part ++ rest))) lent
-      → masks.out a bytes ≡ dampingBytes mask lent
+      → out a bytes ≡ dampingBytes mask lent
   unfolding dampingAnswer dampingBytes
   as-written bytes q =
       let refusal : dampingRefusal mask (length old) ≡ dampingRefusal mask (length lent / 4) =

@@ -4,16 +4,15 @@ ghost use mathlib.Core.Path.{_≡_};
 ghost use Prim.Native.Nat.{_*_, _≤_};
 ghost use lib.ListN.{length};
 ghost use Rattle.lists.specs.Lists.{laid};
-ghost use Rattle.refusal.specs.Counted.{out, out as leaves};
+ghost use Rattle.refusal.specs.Counted.{out};
 ghost use Rattle.topology.specs.declared.Split.the-variants.{Delete, Cut};
 ghost use Rattle.topology.specs.Answers.{splitAnswer};
 ghost use Rattle.masks.specs.Answers.{dofsAnswer, startsAnswer, constraintsAnswer};
 ghost use Rattle.plugin.specs.Bytes.{bytesOf, dampingBytes};
 use limits::fewer;
-use masks::Count;
 use numerals::bits_of;
 use numerals::write_u32;
-use topology::Counted;
+use refusal::Counted;
 use topology::Split;
 use topology::split_map;
 
@@ -36,7 +35,7 @@ pub extern "C" fn giellavor_split_cut(parents: &[u8], link: u32, map: &mut [u8])
 
 // The DoF count of a mask. Refused: 5.
 #[no_mangle]
-pub extern "C" fn giellavor_dof_count(mask: u32) -> Count
+pub extern "C" fn giellavor_dof_count(mask: u32) -> Counted
     ensures { λ r. ⌜ r ≡ dofsAnswer mask ⌝ }
 {
     masks::dof_count(mask)
@@ -44,15 +43,15 @@ pub extern "C" fn giellavor_dof_count(mask: u32) -> Count
 
 // The start of each mask of a list, a byte a mask into `starts`; returned is the total. Refused: 1, 2, 5.
 #[no_mangle]
-pub extern "C" fn giellavor_starts(masks: &[u8], starts: &mut [u8]) -> Count
-    ensures { λ r. ⌜ leaves r (now (starts .exit)) ≡ startsAnswer (now (masks .entry)) (now (starts .entry)) ⌝ }
+pub extern "C" fn giellavor_starts(masks: &[u8], starts: &mut [u8]) -> Counted
+    ensures { λ r. ⌜ out r (now (starts .exit)) ≡ startsAnswer (now (masks .entry)) (now (starts .entry)) ⌝ }
 {
     masks::starts(masks, starts)
 }
 
 // How many velocity constraints a joint makes. Refused: 5.
 #[no_mangle]
-pub extern "C" fn giellavor_num_velocity_constraints(locked: u32, limit: u32, motor: u32) -> Count
+pub extern "C" fn giellavor_num_velocity_constraints(locked: u32, limit: u32, motor: u32) -> Counted
     ensures { λ r. ⌜ r ≡ constraintsAnswer locked limit motor ⌝ }
 {
     masks::num_velocity_constraints(locked, limit, motor)
@@ -72,13 +71,13 @@ fn write_row(row: &[f32], bytes: &mut [u8])
 
 // The default damping of a mask, as f32 bits, lowest byte first, four bytes a DoF into `damping`; returned is the DoF count. Refused: 1, 5.
 #[no_mangle]
-pub extern "C" fn giellavor_default_damping(mask: u32, damping: &mut [u8]) -> Count
-    ensures { λ r. ⌜ leaves r (now (damping .exit)) ≡ dampingBytes mask (now (damping .entry)) ⌝ }
+pub extern "C" fn giellavor_default_damping(mask: u32, damping: &mut [u8]) -> Counted
+    ensures { λ r. ⌜ out r (now (damping .exit)) ≡ dampingBytes mask (now (damping .entry)) ⌝ }
 {
     let mut row = [0.0f32; 3];
     let room = fewer(damping.len() / 4, 3);
     let answer = masks::default_damping(mask, &mut row[0..room]);
-    let n = answer.count as usize;
+    let n = answer.count;
     write_row(&row[0..n], damping);
     answer
 }

@@ -87,9 +87,6 @@ edited = struct (arm ∷ byte ∷ [])
 abbrev pub rotated : Laid
 rotated = struct (byte ∷ rotation ∷ [])
 
-abbrev pub count : Laid
-count = struct (byte ∷ byte ∷ [])
-
 abbrev pub counted : Laid
 counted = struct (byte ∷ usize ∷ [])
 
@@ -112,7 +109,7 @@ sums = struct (byte ∷ word ∷ word ∷ [])
 abbrev pub sizes : List ℕ
 sizes =
     map (λ each. each .size)
-    (rotation ∷ point ∷ pose ∷ joint ∷ spring ∷ link ∷ coupling ∷ row ∷ arm ∷ newLink ∷ newCoupling ∷ limits ∷ force ∷ edited ∷ rotated ∷ count ∷
+    (rotation ∷ point ∷ pose ∷ joint ∷ spring ∷ link ∷ coupling ∷ row ∷ arm ∷ newLink ∷ newCoupling ∷ limits ∷ force ∷ edited ∷ rotated ∷
     counted ∷ rowPart ∷ springAnswer ∷ axesAnswer ∷ constraintRow ∷ sums ∷ [])
 
 -- the size of the struct at a place, from 0; past the last it is 0
@@ -120,4 +117,4 @@ unfoldable pub sizeOf : ℕ → ℕ
 sizeOf place = getD sizes place 0
 
 abbrev pub versionNumber : ℕ
-versionNumber = 1
+versionNumber = 2

@@ -1,10 +1,6 @@
--- `coupling_refusal`: the same list of tests, then the arm's. Assumes nothing.
-use mathlib.Core.Bool.{_&&_}
-use borrow.Author.Needs.{needs}
-use Rattle.arm.proofs.Accepted.{own-then-arm}
-use Rattle.refusal.specs.Refusal.{unlessOf}
-use Rattle.floats.specs.Floats.{isFinite}
+-- `coupling_refusal`: the same list, each test being the definition's by what its call ensures. Assumes nothing.
 use Rattle.arm_edits.specs.Couplings.{couplingRefusal}
+use borrow.Author.Needs.{needs}
 use Rattle.arm_edits.proofs.coupling_refusal.Statement.{statement}
 use Rattle.arm_edits.proofs.coupling_refusal.Tie as tie
 
@@ -41,21 +37,15 @@ unless-requires-4 c κs = search needs
 arm-refusal-requires : tie.Need-arm-refusal-requires
 arm-refusal-requires c κs = search needs
 
-lower-requires : tie.Need-lower-requires
-lower-requires c κs = search needs
+slice-aggregate-lowest : tie.Need-slice-aggregate-lowest
+slice-aggregate-lowest c = search needs
 
-lower-requires-2 : tie.Need-lower-requires-2
-lower-requires-2 c κs = search needs
-
-lower-requires-3 : tie.Need-lower-requires-3
-lower-requires-3 c κs = search needs
-
-lower-requires-4 : tie.Need-lower-requires-4
-lower-requires-4 c κs = search needs
+lowest-requires : tie.Need-lowest-requires
+lowest-requires c κs = search needs
 
 returns : tie.Need-returns
 unfolding couplingRefusal
-returns c = cc (own-then-arm (unlessOf (isFinite (c .before .before .before .before .before .before .before .before .before .before .before .before .before .before .before .before .args .c .coefficient) && isFinite (c .before .before .before .before .before .before .before .before .before .before .before .before .before .before .before .before .args .c .offset)) 7) (c .before .before .before .before .before .before .before .before .before .before .before .before .before .before .before .before .args .arm))
+returns c = cc
 
 pub coupling-refusal-spec : {M : Type 1} → statement M
 coupling-refusal-spec =
@@ -72,8 +62,6 @@ coupling-refusal-spec =
     finite-requires-2
     unless-requires-4
     arm-refusal-requires
-    lower-requires
-    lower-requires-2
-    lower-requires-3
-    lower-requires-4
+    slice-aggregate-lowest
+    lowest-requires
     returns)

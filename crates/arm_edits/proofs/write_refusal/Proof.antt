@@ -1,19 +1,8 @@
--- `write_refusal`: the same list of tests, then the arm's. Assumes nothing.
-use borrow.Author.Needs.{needs}
-use Rattle.arm.proofs.Accepted.{own-then-arm}
-use Prim.Native.Nat.{ℕ}
-use mathlib.Core.Bool.{Bool}
-use mathlib.Core.Path.{_≡_, _∙_}
-use lib.Ieee.{Float}
-use Rattle.masks.specs.Masks.{isAxis, isFree}
-use Rattle.arm.specs.declared.Arm.{Arm}
-use Rattle.arm.specs.Arm.{isLink, maskAt}
-use Rattle.arm.specs.HandedIn.{armRefusal}
+-- `write_refusal`: the same list, each test being the definition's by what its call ensures or by what was found. Assumes nothing.
 use Rattle.arm.proofs.Handed.{found-mask, found-refusal}
 use Rattle.arm.proofs.Shape.{links-length}
-use Rattle.refusal.specs.Refusal.{unlessOf, lowerOf}
-use Rattle.floats.specs.Floats.{isFinite}
 use Rattle.arm_edits.specs.Rows.{writeRefusal}
+use borrow.Author.Needs.{needs}
 use Rattle.arm_edits.proofs.write_refusal.Statement.{statement}
 use Rattle.arm_edits.proofs.write_refusal.Tie as tie
 
@@ -41,33 +30,19 @@ finite-requires c κs = search needs
 unless-requires-4 : tie.Need-unless-requires-4
 unless-requires-4 c κs = search needs
 
-lower-requires : tie.Need-lower-requires
-lower-requires c κs = search needs
+slice-aggregate-lowest : tie.Need-slice-aggregate-lowest
+slice-aggregate-lowest c = search needs
 
-lower-requires-2 : tie.Need-lower-requires-2
-lower-requires-2 c κs = search needs
-
-lower-requires-3 : tie.Need-lower-requires-3
-lower-requires-3 c κs = search needs
-
-lower-requires-4 : tie.Need-lower-requires-4
-lower-requires-4 c κs = search needs
-
-same : (a : Arm) (link axis : ℕ) (value : Float) {m h u₄ u₅ u₆ u₇ l₇ l₆ l₅ l₄ : ℕ} {b₅ b₆ b₇ : Bool} → m ≡ maskAt a link → h ≡ armRefusal a
-    → u₄ ≡ unlessOf (isLink a link) 4 → b₅ ≡ isAxis axis → u₅ ≡ unlessOf b₅ 5 → b₆ ≡ isFree m axis → u₆ ≡ unlessOf b₆ 6 → b₇ ≡ isFinite value
-    → u₇ ≡ unlessOf b₇ 7 → l₇ ≡ lowerOf u₇ h → l₆ ≡ lowerOf u₆ l₇ → l₅ ≡ lowerOf u₅ l₆ → l₄ ≡ lowerOf u₄ l₅ → l₄ ≡ writeRefusal a link axis value
-unfolding writeRefusal
-same a link axis value em eh p₄ q₅ p₅ q₆ p₆ q₇ p₇ r₇ r₆ r₅ r₄ =
-    rw (r₄, r₅, r₆, r₇, p₄, p₅, p₆, p₇, q₅, q₆, q₇, em, eh, own-then-arm (unlessOf (isFinite value) 7) a)
+lowest-requires : tie.Need-lowest-requires
+lowest-requires c κs = search needs
 
 returns : tie.Need-returns
 unfolding writeRefusal
 returns c =
-    let a = c .before .before .before .before .before .before .before .before .before .before .before .before .before .before .args .arm in
-    let w = links-length a (c .before .before .before .before .before .before .before .before .before .before .before .before .before .before .good .0) in
-    let m = c .before .before .before .before .before .before .before .before .before .before .before .before .mask-among .ensures ∙ found-mask a w (c .before .before .before .before .before .before .before .before .before .before .before .before .before .before .args .handed) (c .before .before .before .before .before .before .before .before .before .before .before .before .before .before .pre) (c .before .before .before .before .before .before .before .before .before .before .before .before .before .before .args .link) in
-    let h = found-refusal a w (c .before .before .before .before .before .before .before .before .before .before .before .before .before .before .args .handed) (c .before .before .before .before .before .before .before .before .before .before .before .before .before .before .pre) in
-    same a (c .before .before .before .before .before .before .before .before .before .before .before .before .before .before .args .link) (c .before .before .before .before .before .before .before .before .before .before .before .before .before .before .args .axis) (c .before .before .before .before .before .before .before .before .before .before .before .before .before .before .args .value) m h (c .before .before .before .before .before .before .before .before .before .before .unless .ensures) (c .before .before .before .before .before .before .before .before .before .is-axis .ensures) (c .before .before .before .before .before .before .before .before .unless2 .ensures) (c .before .before .before .before .before .before .before .axis-is-free .ensures) (c .before .before .before .before .before .before .unless3 .ensures) (c .before .before .before .before .before .finite .ensures) (c .before .before .before .before .unless4 .ensures) (c .before .before .before .lower .ensures) (c .before .before .lower2 .ensures) (c .before .lower3 .ensures) (c .lower4 .ensures)
+    let start : tie.Start = search in
+    let a = start .args .arm in
+    let w = links-length a (start .good .0) in
+    cc (found-mask a w (start .args .handed) (start .pre) (start .args .link), found-refusal a w (start .args .handed) (start .pre))
 
 pub write-refusal-spec : {M : Type 1} → statement M
 write-refusal-spec =
@@ -81,8 +56,6 @@ write-refusal-spec =
     unless-requires-3
     finite-requires
     unless-requires-4
-    lower-requires
-    lower-requires-2
-    lower-requires-3
-    lower-requires-4
+    slice-aggregate-lowest
+    lowest-requires
     returns)

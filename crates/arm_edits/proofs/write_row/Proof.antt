@@ -16,7 +16,7 @@ use Rattle.arm.specs.Edits.{edited, dofAt}
 use Rattle.arm.proofs.Accepted.{live}
 use Rattle.arm.proofs.Edits.{edited-none, edited-some, row-there, dof-in-row}
 use Rattle.arm.proofs.Shape.{links-length}
-use Rattle.arm_edits.specs.Rows.{rowWritten}
+use Rattle.arm_edits.specs.Rows.{writeRefusal, rowWritten}
 use Rattle.arm_edits.proofs.Accepted.{write-axis, write-free, write-there}
 use Rattle.arm_edits.proofs.Stores.{entry-stored}
 use Rattle.arm_edits.proofs.write_row.Statement.{statement}
@@ -35,6 +35,30 @@ unfolding dofAmong dofAt startAt maskAt
 place a w h e link axis =
     ap (λ (ms : List ℕ). dofAmong ms link axis) (found-masks a w h e)
 
+-- ---- seen from where the write is accepted
+
+abbrev asked : tie.Then1 → tie.After-write-refusal
+asked c = c .before
+
+abbrev start : tie.Then1 → tie.Start
+start c = asked c .before .before
+
+unrefused : (c : tie.Then1) → writeRefusal (start c .args .arm) (start c .args .link) (start c .args .axis) (start c .args .value) ≡ 0
+unrefused c = sym (asked c .write-refusal .ensures) ∙ c .if1 .taken
+
+-- ---- seen from where the entry's place was found
+
+abbrev accepted-then : tie.After-dof-among → tie.Then1
+accepted-then c = c .before .before
+
+placed : (c : tie.After-dof-among)
+    → c .dof-among .result ≡ dofAt (start (accepted-then c) .args .arm) (start (accepted-then c) .args .link) (start (accepted-then c) .args .axis)
+placed c =
+    let begun = start (accepted-then c) in
+    let found = asked (accepted-then c) .before .handed-in in
+    let arm = begun .args .arm in
+    c .dof-among .ensures ∙ place arm (links-length arm (begun .good .0)) (found .result) (found .ensures) (begun .args .link) (begun .args .axis)
+
 handed-in-requires : tie.Need-handed-in-requires
 handed-in-requires c κs = search needs
 
@@ -42,7 +66,9 @@ write-refusal-requires : tie.Need-write-refusal-requires
 write-refusal-requires c κs = search needs
 
 cast-dof-among : tie.Need-cast-dof-among
-cast-dof-among c = omega (arith, write-axis (c .before .before .before .before .args .arm) (c .before .before .before .before .args .link) (c .before .before .before .before .args .axis) (c .before .before .before .before .args .value) (sym (c .before .before .write-refusal .ensures) ∙ c .before .if1 .taken))
+cast-dof-among c =
+    let given = start (c .before) .args in
+    omega (arith, write-axis (given .arm) (given .link) (given .axis) (given .value) (unrefused (c .before)))
 
 dof-among-requires : tie.Need-dof-among-requires
 dof-among-requires c κs = search needs
@@ -51,33 +77,48 @@ row-number-requires : tie.Need-row-number-requires
 row-number-requires c κs = search needs
 
 mul-row : tie.Need-mul-row
-mul-row c = omega (arith, c .row-number .ensures, row-there (c .before .before .before .before .before .before .args .name))
+mul-row c =
+    let begun : tie.Start = search in
+    omega (arith, c .row-number .ensures, row-there (begun .args .name))
 
 element-copy-out-row : tie.Need-element-copy-out-row
-element-copy-out-row c = omega (arith, c .row-number .ensures, row-there (c .before .before .before .before .before .before .args .name))
+element-copy-out-row c =
+    let begun : tie.Start = search in
+    omega (arith, c .row-number .ensures, row-there (begun .args .name))
 
 with-entry-requires : tie.Need-with-entry-requires
 with-entry-requires c κs =
-    let a = c .before .before .before .before .before .before .before .args .arm in
-    let w = links-length a (c .before .before .before .before .before .before .before .good .0) in
-    let e = sym (c .before .before .before .before .before .write-refusal .ensures) ∙ c .before .before .before .before .if1 .taken in
-    let t = write-there a (c .before .before .before .before .before .before .before .args .link) (c .before .before .before .before .before .before .before .args .axis) (c .before .before .before .before .before .before .before .args .value) e in
-    let p = c .before .before .dof-among .ensures ∙ place a w (c .before .before .before .before .before .before .handed-in .result) (c .before .before .before .before .before .before .handed-in .ensures) (c .before .before .before .before .before .before .before .args .link) (c .before .before .before .before .before .before .before .args .axis) in
-    omega (arith, p, dof-in-row a (c .before .before .before .before .before .before .before .args .link) (c .before .before .before .before .before .before .before .args .axis) w (live a (c .before .before .before .before .before .before .before .args .link) t) (write-free a (c .before .before .before .before .before .before .before .args .link) (c .before .before .before .before .before .before .before .args .axis) (c .before .before .before .before .before .before .before .args .value) e))
+    let found : tie.After-dof-among = search in
+    let accepted-at = accepted-then found in
+    let begun = start accepted-at in
+    let arm = begun .args .arm in
+    let link = begun .args .link in
+    let axis = begun .args .axis in
+    let value = begun .args .value in
+    let e = unrefused accepted-at in
+    omega
+    (arith, placed found, dof-in-row arm link axis (links-length arm (begun .good .0)) (live arm link (write-there arm link axis value e)) (write-free arm link axis value e))
 
 mul-t14 : tie.Need-mul-t14
-mul-t14 c = omega (arith, c .before .before .row-number .ensures, row-there (c .before .before .before .before .before .before .before .before .args .name))
+mul-t14 c =
+    let begun : tie.Start = search in
+    omega (arith, c .before .before .row-number .ensures, row-there (begun .args .name))
 
 element-set-from-new : tie.Need-element-set-from-new
-element-set-from-new c = omega (arith, c .before .before .row-number .ensures, row-there (c .before .before .before .before .before .before .before .before .args .name))
+element-set-from-new c =
+    let begun : tie.Start = search in
+    omega (arith, c .before .before .row-number .ensures, row-there (begun .args .name))
 
 returns : tie.Need-returns
 unfolding rowWritten
 returns c =
-    let a = c .before .before .before .before .before .before .before .before .args .arm in
-    let p = c .before .before .before .dof-among .ensures ∙ place a (links-length a (c .before .before .before .before .before .before .before .before .good .0)) (c .before .before .before .before .before .before .before .handed-in .result) (c .before .before .before .before .before .before .before .handed-in .ensures) (c .before .before .before .before .before .before .before .before .args .link) (c .before .before .before .before .before .before .before .before .args .axis) in
-    accepted _ _ _ _ _ (c .before .before .before .before .before .before .write-refusal .ensures) (c .before .before .before .before .before .if1 .taken)
-    (entry-stored a (c .before .before .before .before .before .before .before .before .args .name) (c .before .before .before .before .before .before .before .before .args .link) (c .before .before .before .before .before .before .before .before .args .axis) (c .before .before .before .before .before .before .before .before .args .value) (c .before .before .row-number .result) (c .before .before .before .dof-among .result) _ _ (c .before .before .row-number .ensures) p (c .with-entry .ensures))
+    let numbered = c .before .before in
+    let found : tie.After-dof-among = search in
+    let accepted-at = accepted-then found in
+    let given = start accepted-at .args in
+    accepted _ _ _ _ _ (asked accepted-at .write-refusal .ensures) (accepted-at .if1 .taken)
+    (entry-stored (given .arm) (given .name) (given .link) (given .axis) (given .value) (numbered .row-number .result) (found .dof-among .result)
+    _ _ (numbered .row-number .ensures) (placed found) (c .with-entry .ensures))
 
 returns-2 : tie.Need-returns-2
 unfolding rowWritten

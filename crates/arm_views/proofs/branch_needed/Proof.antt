@@ -28,9 +28,11 @@ branch-length-requires c κs = search needs
 
 returns : tie.Need-returns
 returns c =
-    let a = c .before .before .before .before .before .args .arm in
-    let w = links-length a (c .before .before .before .before .before .good .0) in
-    arm-needed a (c .before .before .before .before .before .args .link) _ _ (c .branch-length .ensures) (front _ _ (c .before .before .before .before .live-links .ensures) (c .before .before .before .parents-of .ensures) ∙ parents-front a w)
+    let found : tie.After-parents-of = search in
+    let start = found .before .before in
+    let a = start .args .arm in
+    arm-needed a (start .args .link) _ _ (c .branch-length .ensures)
+    (front _ _ (found .before .live-links .ensures) (found .parents-of .ensures) ∙ parents-front a (links-length a (start .good .0)))
 
 pub branch-needed-spec : {M : Type 1} → statement M
 branch-needed-spec =

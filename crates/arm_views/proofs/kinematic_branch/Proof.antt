@@ -12,7 +12,10 @@ branch-refusal-requires : tie.Need-branch-refusal-requires
 branch-refusal-requires c κs = search needs
 
 returns : tie.Need-returns
-returns c = branch-refused (c .before .branch-refusal .result) (c .before .before .before .args .arm) (c .before .before .before .args .link) (c .before .before .before .args .to .now) (c .before .branch-refusal .ensures) (c .if1 .taken)
+returns c =
+    let given = c .before .before .before .args in
+    let asked = c .before .branch-refusal in
+    branch-refused (asked .result) (given .arm) (given .link) (given .to .now) (asked .ensures) (c .if1 .taken)
 
 live-links-requires : tie.Need-live-links-requires
 live-links-requires c κs = search needs
@@ -37,9 +40,15 @@ same-length c = search needs
 
 returns-2 : tie.Need-returns-2
 returns-2 c =
-    let a = c .before .before .before .before .before .before .before .before .before .before .before .args .arm in
-    let w = links-length a (c .before .before .before .before .before .before .before .before .before .before .before .good .0) in
-    c .before .before .kinematic-branch .ensures ∙ branch-accepted (c .before .before .before .before .before .before .before .before .before .branch-refusal .result) a (c .before .before .before .before .before .before .before .before .before .before .before .args .link) _ (c .before .before .before .before .before .before .before .before .before .before .before .args .to .now) w (c .before .before .before .before .before .before .before .before .before .branch-refusal .ensures) (c .before .before .before .before .before .before .before .before .if1 .left) (front _ _ (c .before .before .before .before .before .before .before .live-links .ensures) (c .before .before .before .before .before .before .parents-of .ensures) ∙ parents-front a w)
+    let found : tie.After-parents-of = search in
+    let accepted : tie.Else1 = search in
+    let start : tie.Start = search in
+    let given = start .args in
+    let asked = accepted .before .branch-refusal in
+    let whole = links-length (given .arm) (start .good .0) in
+    c .before .before .kinematic-branch .ensures
+    ∙ branch-accepted (asked .result) (given .arm) (given .link) _ (given .to .now) whole (asked .ensures) (accepted .if1 .left)
+    (front _ _ (found .before .live-links .ensures) (found .parents-of .ensures) ∙ parents-front (given .arm) whole)
 
 pub kinematic-branch-spec : {M : Type 1} → statement M
 kinematic-branch-spec =

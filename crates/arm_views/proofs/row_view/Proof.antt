@@ -1,14 +1,60 @@
 -- `row_view`: an accepted part lies within both rows; refused, it is empty. Assumes nothing.
-use lib.ListN.{length}
-use mathlib.Core.Path.{_∙_, sym, ap}
+use Prim.Native.Nat.{_+_, _-_}
+use mathlib.Core.Path.{_≡_, _∙_, sym, ap}
+use mathlib.Core.List.{List}
+use lib.ListN.{length, take, drop}
+use lib.Ieee.{Float}
 use native.Mathlib.Omega.{arith}
 use borrow.Author.Needs.{needs}
+use Rattle.masks.specs.Masks.{dofsOf}
+use Rattle.arm.specs.Arm.{maskAt, startAt}
 use Rattle.arm.proofs.Shape.{links-length}
 use Rattle.arm_views.specs.declared.Role.{Role}
-use Rattle.arm_views.specs.View.{viewAnswer, rowOf}
-use Rattle.arm_views.proofs.Views.{end-at, seen-some, view-within, view-done}
+use Rattle.arm_views.specs.View.{seen, rowOf, viewAnswer}
+use Rattle.arm_views.proofs.Views.{Within, end-at, seen-some, view-within, view-done}
 use Rattle.arm_views.proofs.row_view.Statement.{statement}
 use Rattle.arm_views.proofs.row_view.Tie as tie
+
+-- ---- seen from where the part's bounds are known
+
+abbrev accepted : tie.After-dofs → tie.Else1
+accepted c = c .before .before .before
+
+abbrev asked : tie.After-dofs → tie.After-view-refusal
+asked c = accepted c .before
+
+abbrev start : tie.After-dofs → tie.Start
+start c = asked c .before .before .before
+
+-- the part, as it is cut out, ends within both rows
+within : (c : tie.After-dofs)
+    → Within (start c .args .arm) (start c .args .link) (length (start c .args .velocities .now)) (length (start c .args .accelerations .now))
+within c =
+    let given = start c .args in
+    view-within (given .arm) (given .link) (length (given .velocities .now)) (length (given .accelerations .now))
+    (links-length (given .arm) (start c .good .0)) (sym (asked c .view-refusal .ensures) ∙ accepted c .if1 .left)
+
+ends : (c : tie.After-dofs)
+    → c .before .before .start-of .result + c .dofs .result
+    ≡ startAt (start c .args .arm) (start c .args .link) + dofsOf (maskAt (start c .args .arm) (start c .args .link))
+ends c =
+    let starts = c .before .before .start-of in
+    let mask = c .before .mask-at in
+    end-at (start c .args .arm) (start c .args .link) (starts .result) (c .dofs .result) (mask .result) (starts .ensures) (c .dofs .ensures) (mask .ensures)
+
+-- the part of the row that is asked for is the answer
+viewed : (c : tie.After-dofs) (row : List Float) → row ≡ rowOf (start c .args .role) (start c .args .velocities .now) (start c .args .accelerations .now)
+    → seen
+    (take ((c .before .before .start-of .result + c .dofs .result) - c .before .before .start-of .result) (drop (c .before .before .start-of .result) row))
+    (asked c .view-refusal .result)
+    ≡ viewAnswer (start c .args .arm) (start c .args .role) (start c .args .link) (start c .args .velocities .now) (start c .args .accelerations .now)
+viewed c row e =
+    let given = start c .args in
+    let number = asked c .view-refusal in
+    let starts = c .before .before .start-of in
+    let mask = c .before .mask-at in
+    view-done (number .result) (given .arm) (given .role) (given .link) (given .velocities .now) (given .accelerations .now) row (starts .result)
+    (c .dofs .result) (mask .result) (number .ensures) (accepted c .if1 .left) (starts .ensures) (c .dofs .ensures) (mask .ensures) e
 
 view-refusal-requires : tie.Need-view-refusal-requires
 view-refusal-requires c κs = search needs
@@ -36,13 +82,13 @@ dofs-requires : tie.Need-dofs-requires
 dofs-requires c κs = search needs
 
 add-end : tie.Need-add-end
-add-end c = omega (arith, view-within (c .before .before .before .before .before .before .before .args .arm) (c .before .before .before .before .before .before .before .args .link) (length (c .before .before .before .before .before .before .before .args .velocities .now)) (length (c .before .before .before .before .before .before .before .args .accelerations .now)) (links-length (c .before .before .before .before .before .before .before .args .arm) (c .before .before .before .before .before .before .before .good .0)) (sym (c .before .before .before .before .view-refusal .ensures) ∙ c .before .before .before .if1 .left), end-at (c .before .before .before .before .before .before .before .args .arm) (c .before .before .before .before .before .before .before .args .link) (c .before .before .start-of .result) (c .dofs .result) (c .before .mask-at .result) (c .before .before .start-of .ensures) (c .dofs .ensures) (c .before .mask-at .ensures))
+add-end c = omega (arith, within c, ends c)
 
 enum-told : tie.Need-enum-told
 enum-told c = search needs
 
 mul-result : tie.Need-mul-result
-mul-result c = omega (arith, view-within (c .before .before .before .before .before .before .before .before .before .args .arm) (c .before .before .before .before .before .before .before .before .before .args .link) (length (c .before .before .before .before .before .before .before .before .before .args .velocities .now)) (length (c .before .before .before .before .before .before .before .before .before .args .accelerations .now)) (links-length (c .before .before .before .before .before .before .before .before .before .args .arm) (c .before .before .before .before .before .before .before .before .before .good .0)) (sym (c .before .before .before .before .before .before .view-refusal .ensures) ∙ c .before .before .before .before .before .if1 .left), end-at (c .before .before .before .before .before .before .before .before .before .args .arm) (c .before .before .before .before .before .before .before .before .before .args .link) (c .before .before .before .before .start-of .result) (c .before .before .dofs .result) (c .before .before .before .mask-at .result) (c .before .before .before .before .start-of .ensures) (c .before .before .dofs .ensures) (c .before .before .before .mask-at .ensures))
+mul-result c = omega (arith, within (c .before .before), ends (c .before .before))
 
 sub-result-2 : tie.Need-sub-result-2
 sub-result-2 c = search needs
@@ -51,13 +97,13 @@ part-result-start-2 : tie.Need-part-result-start-2
 part-result-start-2 c = search needs
 
 part-result-end-2 : tie.Need-part-result-end-2
-part-result-end-2 c = omega (arith, view-within (c .before .before .before .before .before .before .before .before .before .args .arm) (c .before .before .before .before .before .before .before .before .before .args .link) (length (c .before .before .before .before .before .before .before .before .before .args .velocities .now)) (length (c .before .before .before .before .before .before .before .before .before .args .accelerations .now)) (links-length (c .before .before .before .before .before .before .before .before .before .args .arm) (c .before .before .before .before .before .before .before .before .before .good .0)) (sym (c .before .before .before .before .before .before .view-refusal .ensures) ∙ c .before .before .before .before .before .if1 .left), end-at (c .before .before .before .before .before .before .before .before .before .args .arm) (c .before .before .before .before .before .before .before .before .before .args .link) (c .before .before .before .before .start-of .result) (c .before .before .dofs .result) (c .before .before .before .mask-at .result) (c .before .before .before .before .start-of .ensures) (c .before .before .dofs .ensures) (c .before .before .before .mask-at .ensures))
+part-result-end-2 c = omega (arith, within (c .before .before), ends (c .before .before))
 
 enum-told-2 : tie.Need-enum-told-2
 enum-told-2 c = search needs
 
 mul-result-2 : tie.Need-mul-result-2
-mul-result-2 c = omega (arith, view-within (c .before .before .before .before .before .before .before .before .before .args .arm) (c .before .before .before .before .before .before .before .before .before .args .link) (length (c .before .before .before .before .before .before .before .before .before .args .velocities .now)) (length (c .before .before .before .before .before .before .before .before .before .args .accelerations .now)) (links-length (c .before .before .before .before .before .before .before .before .before .args .arm) (c .before .before .before .before .before .before .before .before .before .good .0)) (sym (c .before .before .before .before .before .before .view-refusal .ensures) ∙ c .before .before .before .before .before .if1 .left), end-at (c .before .before .before .before .before .before .before .before .before .args .arm) (c .before .before .before .before .before .before .before .before .before .args .link) (c .before .before .before .before .start-of .result) (c .before .before .dofs .result) (c .before .before .before .mask-at .result) (c .before .before .before .before .start-of .ensures) (c .before .before .dofs .ensures) (c .before .before .before .mask-at .ensures))
+mul-result-2 c = omega (arith, within (c .before .before), ends (c .before .before))
 
 sub-result-3 : tie.Need-sub-result-3
 sub-result-3 c = search needs
@@ -66,19 +112,19 @@ part-result-start-3 : tie.Need-part-result-start-3
 part-result-start-3 c = search needs
 
 part-result-end-3 : tie.Need-part-result-end-3
-part-result-end-3 c = omega (arith, view-within (c .before .before .before .before .before .before .before .before .before .args .arm) (c .before .before .before .before .before .before .before .before .before .args .link) (length (c .before .before .before .before .before .before .before .before .before .args .velocities .now)) (length (c .before .before .before .before .before .before .before .before .before .args .accelerations .now)) (links-length (c .before .before .before .before .before .before .before .before .before .args .arm) (c .before .before .before .before .before .before .before .before .before .good .0)) (sym (c .before .before .before .before .before .before .view-refusal .ensures) ∙ c .before .before .before .before .before .if1 .left), end-at (c .before .before .before .before .before .before .before .before .before .args .arm) (c .before .before .before .before .before .before .before .before .before .args .link) (c .before .before .before .before .start-of .result) (c .before .before .dofs .result) (c .before .before .before .mask-at .result) (c .before .before .before .before .start-of .ensures) (c .before .before .dofs .ensures) (c .before .before .before .mask-at .ensures))
+part-result-end-3 c = omega (arith, within (c .before .before), ends (c .before .before))
 
 returns-2 : tie.Need-returns-2
 returns-2 c =
-    let s = c .before .before .before .before .before .before .before .before .before .before .args in
-    view-done (c .before .before .before .before .before .before .before .view-refusal .result) (s .arm) (s .role) (s .link) (s .velocities .now) (s .accelerations .now) (s .velocities .now) (c .before .before .before .before .before .start-of .result) (c .before .before .before .dofs .result) (c .before .before .before .before .mask-at .result)
-    (c .before .before .before .before .before .before .before .view-refusal .ensures) (c .before .before .before .before .before .before .if1 .left) (c .before .before .before .before .before .start-of .ensures) (c .before .before .before .dofs .ensures) (c .before .before .before .before .mask-at .ensures) (ap (λ (r : Role). rowOf r (s .velocities .now) (s .accelerations .now)) (sym (c .before .enum-told .given .1)))
+    let bounds = c .before .before .before in
+    let given = start bounds .args in
+    viewed bounds (given .velocities .now) (ap (λ (r : Role). rowOf r (given .velocities .now) (given .accelerations .now)) (sym (c .before .enum-told .given .1)))
 
 returns-3 : tie.Need-returns-3
 returns-3 c =
-    let s = c .before .before .before .before .before .before .before .before .before .before .args in
-    view-done (c .before .before .before .before .before .before .before .view-refusal .result) (s .arm) (s .role) (s .link) (s .velocities .now) (s .accelerations .now) (s .accelerations .now) (c .before .before .before .before .before .start-of .result) (c .before .before .before .dofs .result) (c .before .before .before .before .mask-at .result)
-    (c .before .before .before .before .before .before .before .view-refusal .ensures) (c .before .before .before .before .before .before .if1 .left) (c .before .before .before .before .before .start-of .ensures) (c .before .before .before .dofs .ensures) (c .before .before .before .before .mask-at .ensures) (ap (λ (r : Role). rowOf r (s .velocities .now) (s .accelerations .now)) (sym (c .before .enum-told2 .given .1)))
+    let bounds = c .before .before .before in
+    let given = start bounds .args in
+    viewed bounds (given .accelerations .now) (ap (λ (r : Role). rowOf r (given .velocities .now) (given .accelerations .now)) (sym (c .before .enum-told2 .given .1)))
 
 pub row-view-spec : {M : Type 1} → statement M
 row-view-spec =

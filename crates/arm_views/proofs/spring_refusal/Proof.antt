@@ -1,9 +1,6 @@
--- `spring_refusal`: the same list of tests, then the arm's. Assumes nothing.
-use borrow.Author.Needs.{needs}
-use Rattle.arm.proofs.Accepted.{own-then-arm}
-use Rattle.refusal.specs.Refusal.{unlessOf}
-use Rattle.masks.specs.Masks.{isAxis}
+-- `spring_refusal`: the same list, each test being the definition's by what its call ensures. Assumes nothing.
 use Rattle.arm_views.specs.Links.{springRefusal}
+use borrow.Author.Needs.{needs}
 use Rattle.arm_views.proofs.spring_refusal.Statement.{statement}
 use Rattle.arm_views.proofs.spring_refusal.Tie as tie
 
@@ -19,15 +16,15 @@ unless-requires-2 c κs = search needs
 arm-refusal-requires : tie.Need-arm-refusal-requires
 arm-refusal-requires c κs = search needs
 
-lower-requires : tie.Need-lower-requires
-lower-requires c κs = search needs
+slice-aggregate-lowest : tie.Need-slice-aggregate-lowest
+slice-aggregate-lowest c = search needs
 
-lower-requires-2 : tie.Need-lower-requires-2
-lower-requires-2 c κs = search needs
+lowest-requires : tie.Need-lowest-requires
+lowest-requires c κs = search needs
 
 returns : tie.Need-returns
 unfolding springRefusal
-returns c = cc (own-then-arm (unlessOf (isAxis (c .before .before .before .before .before .before .before .args .axis)) 5) (c .before .before .before .before .before .before .before .args .arm))
+returns c = cc
 
 pub spring-refusal-spec : {M : Type 1} → statement M
 spring-refusal-spec =
@@ -37,6 +34,6 @@ spring-refusal-spec =
     is-axis-requires
     unless-requires-2
     arm-refusal-requires
-    lower-requires
-    lower-requires-2
+    slice-aggregate-lowest
+    lowest-requires
     returns)

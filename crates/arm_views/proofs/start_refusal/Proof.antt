@@ -1,9 +1,6 @@
--- `start_refusal`: the same list of tests, then the arm's. Assumes nothing.
-use borrow.Author.Needs.{needs}
-use Rattle.arm.proofs.Accepted.{own-then-arm}
-use Rattle.arm.specs.Arm.{isLink}
-use Rattle.refusal.specs.Refusal.{unlessOf}
+-- `start_refusal`: the same list, each test being the definition's by what its call ensures. Assumes nothing.
 use Rattle.arm_views.specs.Numbers.{startRefusal}
+use borrow.Author.Needs.{needs}
 use Rattle.arm_views.proofs.start_refusal.Statement.{statement}
 use Rattle.arm_views.proofs.start_refusal.Tie as tie
 
@@ -13,13 +10,17 @@ unless-requires c κs = search needs
 arm-refusal-requires : tie.Need-arm-refusal-requires
 arm-refusal-requires c κs = search needs
 
-lower-requires : tie.Need-lower-requires
-lower-requires c κs = search needs
+slice-aggregate-lowest : tie.Need-slice-aggregate-lowest
+slice-aggregate-lowest c = search needs
+
+lowest-requires : tie.Need-lowest-requires
+lowest-requires c κs = search needs
 
 returns : tie.Need-returns
 unfolding startRefusal
-returns c = cc (own-then-arm (unlessOf (isLink (c .before .before .before .before .args .arm) (c .before .before .before .before .args .link)) 4) (c .before .before .before .before .args .arm))
+returns c = cc
 
 pub start-refusal-spec : {M : Type 1} → statement M
 start-refusal-spec =
-    tie.close (tie.spec unless-requires arm-refusal-requires lower-requires returns)
+    tie.close
+    (tie.spec unless-requires arm-refusal-requires slice-aggregate-lowest lowest-requires returns)

@@ -19,9 +19,6 @@ part-row-end c = search needs
 default-damping-requires : tie.Need-default-damping-requires
 default-damping-requires c κs = search needs
 
-cast-n : tie.Need-cast-n
-cast-n c = search needs
-
 sub-write-row : tie.Need-sub-write-row
 sub-write-row c = search needs
 
@@ -30,24 +27,30 @@ part-write-row-start c = search needs
 
 part-write-row-end : tie.Need-part-write-row-end
 part-write-row-end c =
-    let start = c .before .before .before .before .before .before .before in
-    let damped = c .before .before .before in
-    count-fits (start .args .mask) (start .args .damping .now) _ _ _ (damped .default-damping .result) (three-long _ _ _ (damped .before .before .fewer .ensures)) (damped .default-damping .ensures)
+    let start : tie.Start = search in
+    let damped : tie.After-default-damping = search in
+    let row = damped .default-damping in
+    count-fits (start .args .mask) (start .args .damping .now) _ _ _ (row .result)
+    (three-long _ _ _ (damped .before .before .fewer .ensures)) (row .ensures)
 
 write-row-requires : tie.Need-write-row-requires
 write-row-requires c κs =
-    let start = c .before .before .before .before .before .before .before .before .before in
-    let damped = c .before .before .before .before .before in
-    bytes-fit (start .args .mask) (start .args .damping .now) _ _ _ (damped .default-damping .result) (three-long _ _ _ (damped .before .before .fewer .ensures)) (damped .default-damping .ensures)
+    let start : tie.Start = search in
+    let damped : tie.After-default-damping = search in
+    let row = damped .default-damping in
+    bytes-fit (start .args .mask) (start .args .damping .now) _ _ _ (row .result)
+    (three-long _ _ _ (damped .before .before .fewer .ensures)) (row .ensures)
 
 same-length : tie.Need-same-length
 same-length c = search needs
 
 returns : tie.Need-returns
 returns c =
-    let start = c .before .before .before .before .before .before .before .before .before .before .before .before in
-    let damped = c .before .before .before .before .before .before .before .before in
-    as-written (start .args .mask) (start .args .damping .now) _ _ _ (damped .default-damping .result) (three-long _ _ _ (damped .before .before .fewer .ensures)) (damped .default-damping .ensures) _ (c .before .before .write-row .ensures)
+    let start : tie.Start = search in
+    let damped : tie.After-default-damping = search in
+    let row = damped .default-damping in
+    as-written (start .args .mask) (start .args .damping .now) _ _ _ (row .result)
+    (three-long _ _ _ (damped .before .before .fewer .ensures)) (row .ensures) _ (c .before .before .write-row .ensures)
 
 pub giellavor-default-damping-spec : {M : Type 1} → statement M
 giellavor-default-damping-spec =
@@ -58,7 +61,6 @@ giellavor-default-damping-spec =
     part-row-start
     part-row-end
     default-damping-requires
-    cast-n
     sub-write-row
     part-write-row-start
     part-write-row-end

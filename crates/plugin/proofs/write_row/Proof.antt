@@ -1,7 +1,7 @@
 -- `write_row`: the floats passed are written. Assumes nothing.
 use Rattle.plugin.proofs.Rows.{Written, written-all, written-more, written-none}
 use lib.ListN.{length}
-use Prim.Native.Nat.{_-_, _≤_}
+use Prim.Native.Nat.{_-_, _≤_, _<_}
 use native.Mathlib.Omega.{arith}
 use borrow.Author.Needs.{needs}
 use Rattle.plugin.proofs.write_row.Statement.{statement}
@@ -40,17 +40,25 @@ loop-less c = search needs
 loop-again : tie.Need-loop-again Inv-loop μ-loop
 loop-again c =
     let written = c .before .before in
-    let at = written .before .before .before .before .before in
-    let a = at .before .before .before .args in
+    let turn : tie.At-loop Inv-loop μ-loop = search in
+    let start : tie.Start Inv-loop μ-loop = search in
     let bits = written .before .bits-of in
-    let h = at .loop .inv .1 .same-length in
-    (omega arith, written-more (a .row .now) (a .bytes .now) (at .loop .i) (at .loop .bytes) (at .loop .inv .1) (written .before .before .before .before .loop-test .taken) (bits .result) (written .write-u32 .result) _ (bits .ensures) (c .before .bytes .given) (omega arith) (written .write-u32 .ensures))
+    let at = turn .loop in
+    let h = at .inv .1 .same-length in
+    let more : at .i < length (start .args .row .now) = written .before .before .before .before .loop-test .taken in (
+      omega arith,
+      written-more (start .args .row .now) (start .args .bytes .now) (at .i) (at .bytes) (at .inv .1) more (bits .result) (written .write-u32 .result) _
+          (bits .ensures) (c .before .bytes .given) (omega arith) (written .write-u32 .ensures),
+    )
 
 same-length : tie.Need-same-length Inv-loop μ-loop
 same-length c = c .before .loop .inv .1 .same-length
 
 returns : tie.Need-returns Inv-loop μ-loop
-returns c = written-all (c .before .before .before .before .args .row .now) (c .before .before .before .before .args .bytes .now) (c .before .loop .i) (c .before .loop .bytes) (c .before .loop .inv .1) (omega arith)
+returns c =
+    let start : tie.Start Inv-loop μ-loop = search in
+    let at = c .before .loop in
+    written-all (start .args .row .now) (start .args .bytes .now) (at .i) (at .bytes) (at .inv .1) (omega arith)
 
 pub write-row-spec : {M : Type 1} → statement M
 write-row-spec =
