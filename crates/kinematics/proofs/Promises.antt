@@ -123,18 +123,25 @@ module _ (ls : List Link) (n : ℕ) (b : ℕ → Bool) (t : List Float) (f : Fit
 
   full-fine : fineAfter ls n b t ≡ fineAfter ls n everyLink (cleared t)
   unfolding fineAfter stateAfter laws
-  full-fine = pass-tests keptOps (parentAt ls) (inputsOf ls) linkLimit n (f .few) laws b (r .closed) (state ls t) (f .places, f .long) (r .fresh) (state ls (cleared t)) (f′ .places, f′ .long) finiteKept (r .finite)
+  full-fine =
+      pass-tests keptOps (parentAt ls) (inputsOf ls) linkLimit n (f .few) laws b (r .closed) (state ls t) (f .places, f .long) (r .fresh)
+      (state ls (cleared t)) (f′ .places, f′ .long) finiteKept (r .finite)
 
   same-all : (j : ℕ) → j < linkLimit → keptAt (stateAfter ls n b t) j ≡ keptAt (stateAfter ls n everyLink (cleared t)) j
   same-all j h = elim (decLt j n) [
     | yes q ↦ full-kept j q
-    | no q ↦ after-beyond ls n b t f j (omega arith) ∙ same-kept ls t (cleared t) j (r .unused j (omega arith) h ∙ sym (cleared-block t j h)) ∙ sym (after-beyond ls n everyLink (cleared t) f′ j (omega arith))
+    | no q ↦
+        after-beyond ls n b t f j (omega arith)
+        ∙ same-kept ls t (cleared t) j (r .unused j (omega arith) h ∙ sym (cleared-block t j h))
+        ∙ sym (after-beyond ls n everyLink (cleared t) f′ j (omega arith))
   ]
 
   same-links : stateAfter ls n b t .links ≡ stateAfter ls n everyLink (cleared t) .links
   same-links =
       ext-getD noLink _ _ (after-good ls n b t f .0 ∙ sym (after-good ls n everyLink (cleared t) f′ .0)) (λ j h.
-      link-back (stateAfter ls n b t) (stateAfter ls n everyLink (cleared t)) j (after-blank ls n b t j ∙ sym (after-blank ls n everyLink (cleared t) j)) (same-all j (omega (arith, after-good ls n b t f .0))))
+      link-back (stateAfter ls n b t) (stateAfter ls n everyLink (cleared t)) j
+      (after-blank ls n b t j ∙ sym (after-blank ls n everyLink (cleared t) j))
+      (same-all j (omega (arith, after-good ls n b t f .0))))
 
   same-tables : stateAfter ls n b t .tables ≡ stateAfter ls n everyLink (cleared t) .tables
   same-tables =
@@ -207,7 +214,9 @@ module _ (ls ls′ : List Link) (n : ℕ) (b : ℕ → Bool) (t : List Float) (f
   agree (suc k) h = go (b k) (agree k (omega arith))
     where
       go : (m : Bool) → Agree (stateAfter ls k b t) (stateAfter ls′ k b t)
-          → Agree (cond m (putKept (stateAfter ls k b t) k (resultOf ls (stateAfter ls k b t) k)) (stateAfter ls k b t)) (cond m (putKept (stateAfter ls′ k b t) k (resultOf ls′ (stateAfter ls′ k b t) k)) (stateAfter ls′ k b t))
+          → Agree
+          (cond m (putKept (stateAfter ls k b t) k (resultOf ls (stateAfter ls k b t) k)) (stateAfter ls k b t))
+          (cond m (putKept (stateAfter ls′ k b t) k (resultOf ls′ (stateAfter ls′ k b t) k)) (stateAfter ls′ k b t))
       go true a =
           put-agree (stateAfter ls k b t) (stateAfter ls′ k b t) k _ _ h
           (after-good ls k b t (fits-at ls k (omega arith) f) .0 ∙ sym (after-good ls′ k b t (fits-at ls′ k (omega arith) f′) .0))
