@@ -115,7 +115,7 @@ module _ (a : Arm) (sized : length (a .links) ≡ linkLimit) (t : List Float) (n
       ∙ take-suc-set (a .links) n l (omega (arith, k .room))
       ∙ ap (λ (i : ℕ). take i (a .links) ++ (l ∷ [])) (sym live)
 
-  mapped : {B : Type 0} (f : Link → B) → map f (linksOf (addedInputs a new)) ≡ map f (linksOf a) ++ (f (linkOf new) ∷ [])
+  pub mapped : {B : Type 0} (f : Link → B) → map f (linksOf (addedInputs a new)) ≡ map f (linksOf a) ++ (f (linkOf new) ∷ [])
   mapped f = ap (map f) links-added ∙ map-append f (linksOf a) (l ∷ [])
 
   each : (test : Link → Bool) → every test (linksOf a) ≡ true → test (linkOf new) ≡ true → every test (linksOf (addedInputs a new)) ≡ true

@@ -1,35 +1,39 @@
 -- Demand 3 of the addition: only the new link is marked, and no earlier one has it for a parent. Assumes nothing.
 use Prim.Native.Nat.{ℕ, _+_, _≤_, _<_}
-use mathlib.Core.Path.{_≡_, refl, sym, ap, _∙_}
+use mathlib.Core.Path.{_≡_, refl, sym, ap, ap₂, _∙_}
 use mathlib.Core.Bool.{Bool, true, false}
-use mathlib.Core.List.{List, [], map}
+use mathlib.Core.List.{List, [], _∷_, _++_, map}
 use native.Mathlib.Omega.{arith}
 use native.Mathlib.Decide.{decLt}
 use borrow.Author.Tests.{eqb-true, eqb-false, ne-eqb}
 use lib.Dec.{eqb}
-use lib.ListN.{length, getD, set, take, length-set, length-map, List·getD-map}
-use lib.Seq.{getD-set-other, take-set-le, length-take-le}
+use lib.ListN.{length, getD, set, take, length-set, length-map, length-append, List·getD-map, List·getD-append, List·getD-eq-default}
+use lib.Seq.{getD-set-other, take-set-le, length-take-le, take-append-le, take-at}
 use lib.Ieee.{Float}
 use Rattle.one_link.specs.Promise.{Right}
 use Rattle.arm.specs.Sized.{Sized}
-use Rattle.lists.proofs.Parts.{with-length}
+use Rattle.lists.proofs.Parts.{with-length, take-drop-take}
 use Rattle.lists.proofs.Modified.{length-modify, modify-same, modify-other}
 use Rattle.lists.proofs.Lists.{map-take, map-at}
-use Rattle.lists.specs.Lists.{laid, modify}
+use Rattle.lists.specs.Lists.{part, laid, modify}
 use Rattle.limits.specs.Limits.{linkLimit, dofLimit}
-use Rattle.masks.specs.Masks.{dofsOf, dampingRow}
+use Rattle.masks.specs.Masks.{bitOf, isFree, dofsBelow, dofsOf, dampingRow}
 use Rattle.masks.specs.Starts.{totalOf, startOf}
 use Rattle.masks.proofs.Laws.{dofs-le}
 use Rattle.arm.specs.declared.Link.{Link}
 use Rattle.arm.specs.declared.Row.{Row}
+use Rattle.arm.specs.declared.RowName.{RowName}
+use Rattle.arm.specs.declared.RowName.the-variants.{Velocities, Damping, Armature, Frictions, Accelerations}
 use Rattle.arm.specs.declared.Arm.{Arm}
-use Rattle.arm.specs.Arm.{dofCountOf, entriesOf, noLink, linkAt, lockedOf}
+use Rattle.arm.specs.Arm.{masksOf, maskAt, startAt, dofCountOf, rowNumber, entriesOf, entriesTo, noLink, linkAt, lockedOf}
+use Rattle.arm.proofs.Live.{masks-live, part-within}
 use Rattle.kinematics.specs.Blocks.{blockAt}
 use Rattle.kinematics.specs.Link.{finiteKept}
 use Rattle.kinematics.specs.State.{state, inputsOf, keptAt, keptOps, parentAt}
 use Rattle.kinematics.proofs.Pass.{new-same}
 use Rattle.full_working.specs.Full.{Settled}
 use Rattle.kinematics.specs.Promises.{Fresh, Ready}
+use Rattle.one_link.specs.Promise.{ownEntries}
 use Rattle.one_link.proofs.Parents.{parent-le}
 use Rattle.one_link.proofs.Settles.{Facts, facts}
 use Rattle.one_link.proofs.Right.{Edit, right}
@@ -40,7 +44,7 @@ use Rattle.addition.specs.Addition.{addRefusal, linkAdded}
 use Rattle.addition.specs.Promise.{IsAdded}
 use Rattle.addition.proofs.Entries.{room}
 use Rattle.addition.proofs.Tests.{Passed, passed}
-use Rattle.addition.proofs.Added.{zeros-enough, laid-enough, still-ok}
+use Rattle.addition.proofs.Added.{zeros-enough, laid-enough, mapped, still-ok}
 
 -- ---- the rows keep their lengths
 
@@ -50,6 +54,10 @@ noRow = record { entries = [] }
 set-length : (start n : ℕ) (values : List Float) (row : Row) → start + n ≤ length (row .entries) → n ≤ length values → length (entriesSet start n values row .entries) ≡ length (row .entries)
 unfolding entriesSet
 set-length start n values row h l = with-length (row .entries) start n (take n values) h (length-take-le n values l)
+
+set-front : (start n : ℕ) (values : List Float) (row : Row) → start ≤ length (row .entries) → entriesTo start (entriesSet start n values row) ≡ entriesTo start row
+unfolding entriesSet
+set-front start n values row h = take-at (take start (row .entries)) _ start (length-take-le start (row .entries) h)
 
 module _ (a : Arm) (sized : Sized a) (few : a .«link_count» < linkLimit) (mask : ℕ) where
   row-of : (k : ℕ) → k < 5 → length (getD (a .rows) k noRow .entries) ≡ dofLimit
@@ -92,6 +100,64 @@ module _ (a : Arm) (sized : Sized a) (few : a .«link_count» < linkLimit) (mask
   rows-count : length (rowsWith a mask) ≡ 5
   unfolding rowsWith
   rows-count = length-modify (entriesSet start m (laid (dampingRow mask) zeros)) 1 xs ∙ length-map (a .rows) (entriesSet start m zeros) ∙ sized .rows
+
+  -- the entries that were there stay: the new ones lie behind them
+
+  zeroed-front : (k : ℕ) → k < 5 → entriesTo start (getD xs k noRow) ≡ entriesTo start (getD (a .rows) k noRow)
+  zeroed-front k h =
+      ap (entriesTo start) (map-at (entriesSet start m zeros) (a .rows) k noRow noRow (omega (arith, sized .rows)))
+      ∙ set-front start m zeros (getD (a .rows) k noRow) (omega (arith, fits, row-of k h))
+
+  damped-front : (k : ℕ) → k < 5 → entriesTo start (getD (rowsWith a mask) k noRow) ≡ entriesTo start (getD (a .rows) k noRow)
+  unfolding rowsWith
+  damped-front k h = go (eqb k 1) refl
+    where
+      f : Row → Row
+      f = entriesSet start m (laid (dampingRow mask) zeros)
+
+      go : (b : Bool) → eqb k 1 ≡ b → entriesTo start (getD (modify f 1 xs) k noRow) ≡ entriesTo start (getD (a .rows) k noRow)
+      go true e =
+          let q : k ≡ 1 = eqb-true k 1 e in
+          ap (λ (i : ℕ). entriesTo start (getD (modify f 1 xs) i noRow)) q
+          ∙ ap (entriesTo start) (modify-same f 1 xs noRow (omega (arith, length-map (a .rows) (entriesSet start m zeros), sized .rows)))
+          ∙ set-front start m (laid (dampingRow mask) zeros) (getD xs 1 noRow) (omega (arith, fits, zeroed 1 (omega arith)))
+          ∙ zeroed-front 1 (omega arith)
+          ∙ ap (λ (i : ℕ). entriesTo start (getD (a .rows) i noRow)) (sym q)
+      go false e = ap (entriesTo start) (modify-other f 1 k xs noRow (eqb-false k 1 e)) ∙ zeroed-front k h
+
+  -- so does any part of them
+  rows-part : (k at w : ℕ) → k < 5 → at + w ≤ start → part at w (getD (map entriesOf (rowsWith a mask)) k []) ≡ part at w (getD (map entriesOf (a .rows)) k [])
+  rows-part k at w h l =
+      ap (part at w) (List·getD-map entriesOf (rowsWith a mask) k noRow)
+      ∙ sym (take-drop-take at w start (getD (rowsWith a mask) k noRow .entries) l)
+      ∙ ap (part at w) (damped-front k h)
+      ∙ take-drop-take at w start (getD (a .rows) k noRow .entries) l
+      ∙ ap (part at w) (sym (List·getD-map entriesOf (a .rows) k noRow))
+
+row-below : (name : RowName) → rowNumber name < 5
+row-below Velocities = omega arith
+row-below Damping = omega arith
+row-below Armature = omega arith
+row-below Frictions = omega arith
+row-below Accelerations = omega arith
+
+-- ---- one mask more
+
+module _ (ms : List ℕ) (m : ℕ) where
+  start-stays : (j : ℕ) → j ≤ length ms → startOf (ms ++ (m ∷ [])) j ≡ startOf ms j
+  unfolding startOf
+  start-stays j h = ap totalOf (take-append-le j ms (m ∷ []) h)
+
+  mask-stays : (j : ℕ) → (j ≡ length ms → ⊥) → getD (ms ++ (m ∷ [])) j 7 ≡ getD ms j 7
+  mask-stays j z = elim (decLt j (length ms)) [
+    | yes h ↦ List·getD-append ms (m ∷ []) 7 j h
+    | no h ↦
+        let l : length ms < j = elim (decLt (length ms) j) [
+          | yes q ↦ q
+          | no q ↦ absurd (z (omega arith))
+        ] in
+        List·getD-eq-default (ms ++ (m ∷ [])) 7 (omega (arith, length-append ms (m ∷ []))) ∙ sym (List·getD-eq-default ms 7 (omega arith))
+  ]
 
 -- ---- the addition
 
@@ -159,6 +225,45 @@ module _ (a : Arm) (t : List Float) (sized : Sized a) (settled : Settled a t) (n
     unused = λ j h l. facts-of .unused j (omega arith) l;
   }
 
+  -- ---- row entries
+
+  abbrev ms : List ℕ
+  ms = masksOf a
+
+  masks-added : masksOf (addedInputs a new) ≡ ms ++ (linkOf new .joint .locked ∷ [])
+  unfolding masksOf
+  masks-added = mapped a (sized .links) t new k (facts-of .ok) lockedOf
+
+  masks-length : length ms ≡ n
+  masks-length = omega (arith, masks-live a (sized .links), k .room)
+
+  start-kept : (j : ℕ) → j < n → startAt (addedInputs a new) j ≡ startAt a j
+  unfolding startAt
+  start-kept j h = ap (λ (xs : List ℕ). startOf xs j) masks-added ∙ start-stays ms _ j (omega (arith, masks-length))
+
+  dofs-kept : (j : ℕ) → (IsAdded a j → ⊥) → dofsOf (maskAt (addedInputs a new) j) ≡ dofsOf (maskAt a j)
+  unfolding maskAt
+  dofs-kept j z = ap (λ (xs : List ℕ). dofsOf (getD xs j 7)) masks-added ∙ ap dofsOf (mask-stays ms _ j (λ q. z (q ∙ masks-length)))
+
+  no-dofs : (j : ℕ) → n ≤ j → dofsOf (maskAt a j) ≡ 0
+  unfolding maskAt dofsOf dofsBelow isFree bitOf
+  no-dofs j h = ap dofsOf (List·getD-eq-default ms 7 (omega (arith, masks-length)))
+
+  -- a link that was there has its start and its mask; past the links none has entries
+  entries-stay : (j : ℕ) → (IsAdded a j → ⊥) → (name : RowName) → ownEntries (addedInputs a new) name j ≡ ownEntries a name j
+  unfolding addedInputs
+  entries-stay j z name = elim (decLt j n) [
+    | yes h ↦
+        ap₂ (λ (at w : ℕ). part at w new-row) (start-kept j h) (dofs-kept j z)
+        ∙ rows-part a sized (k .room) (new .locked) (rowNumber name) (startAt a j) (dofsOf (maskAt a j)) (row-below name) (part-within a (sized .links) j (omega (arith, k .room)))
+    | no h ↦
+        ap (λ (w : ℕ). part (startAt (addedInputs a new) j) w new-row) (dofs-kept j z ∙ no-dofs j (omega arith))
+        ∙ sym (ap (λ (w : ℕ). part (startAt a j) w (getD (map entriesOf (a .rows)) (rowNumber name) [])) (no-dofs j (omega arith)))
+  ]
+    where
+      new-row : List Float
+      new-row = getD (map entriesOf (rowsWith a (new .locked))) (rowNumber name) []
+
   edit : Edit a t (addedInputs a new) (only n) (IsAdded a)
   unfolding addedInputs
   edit = record {
@@ -172,6 +277,7 @@ module _ (a : Arm) (t : List Float) (sized : Sized a) (settled : Settled a t) (n
     ready = ready;
     ok = λ f. still-ok a (sized .links) t new k (facts-of .ok);
     apart = λ j h z. (λ q. ne-eqb j n z, getD-set-other ls n j (linkOf new) noLink z);
+    entries = λ j h z name. entries-stay j z name;
   }
 
 pub the-addition : (a : Arm) (t : List Float) → Sized a → Settled a t → (new : NewLink)

@@ -95,7 +95,10 @@ module _ (ls : List Link) (count : ℕ) (t : List Float) where
       all-no h = passed-no _ _ ls t (sym test-all ∙ h) ∙ is-all
 
       work-length : length work ≡ tableSize
-      work-length = ap length (k′ .blocks) ∙ laid-length everyLink (newBlock ls everyLink t) n (new-size ls everyLink t n fit sized long) zeros (omega (arith, enough, zeros-length)) n (omega arith) ∙ zeros-length
+      work-length =
+          ap length (k′ .blocks)
+          ∙ laid-length everyLink (newBlock ls everyLink t) n (new-size ls everyLink t n fit sized long) zeros (omega (arith, enough, zeros-length)) n (omega arith)
+          ∙ zeros-length
 
       pub all-yes : r .fine ≡ true → (m : List Float) → m ≡ overlaid t work → out r m ≡ refreshAll ls count t
       all-yes h m q =

@@ -35,7 +35,8 @@ unfolding blocksLaid
 laid-same b new new′ t zero h = refl
 laid-same b new new′ t (suc n) h = go (b n) refl (laid-same b new new′ t n (λ j l. h j (omega arith)))
   where
-    go : (m : Bool) → b n ≡ m → blocksLaid b new n t ≡ blocksLaid b new′ n t → cond m (withBlock n (new n) (blocksLaid b new n t)) (blocksLaid b new n t) ≡ cond m (withBlock n (new′ n) (blocksLaid b new′ n t)) (blocksLaid b new′ n t)
+    go : (m : Bool) → b n ≡ m → blocksLaid b new n t ≡ blocksLaid b new′ n t
+        → cond m (withBlock n (new n) (blocksLaid b new n t)) (blocksLaid b new n t) ≡ cond m (withBlock n (new′ n) (blocksLaid b new′ n t)) (blocksLaid b new′ n t)
     go true e ih = ap₂ (withBlock n) (h n (omega arith) e) ih
     go false e ih = ih
 

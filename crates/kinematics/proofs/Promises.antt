@@ -39,7 +39,7 @@ pub link-back : (m g : State) (j : ℕ) → blank (linkAt (m .links) j) ≡ blan
 unfolding keptAt withPlace
 link-back m g j e k = ap₂ withKept e k
 
-kept-block : (m g : State) (j : ℕ) → keptAt m j ≡ keptAt g j → blockAt j (m .tables) ≡ blockAt j (g .tables)
+pub kept-block : (m g : State) (j : ℕ) → keptAt m j ≡ keptAt g j → blockAt j (m .tables) ≡ blockAt j (g .tables)
 unfolding keptAt
 kept-block m g j e = ap (λ (k : Kept). k .block) e
 
@@ -57,7 +57,7 @@ module _ (ls : List Link) (n : ℕ) (b : ℕ → Bool) (t : List Float) (f : Fit
   unfolding stateAfter laws
   after-good = stays-good keptOps (parentAt ls) (inputsOf ls) linkLimit n (f .few) laws b (state ls t) (f .places, f .long)
 
-  after-beyond : (j : ℕ) → n ≤ j → keptAt (stateAfter ls n b t) j ≡ keptAt (state ls t) j
+  pub after-beyond : (j : ℕ) → n ≤ j → keptAt (stateAfter ls n b t) j ≡ keptAt (state ls t) j
   unfolding stateAfter laws
   after-beyond = beyond keptOps (parentAt ls) (inputsOf ls) linkLimit n (f .few) laws b (state ls t) (f .places, f .long)
 
@@ -95,14 +95,27 @@ stays ls n b t f = (
   ap (drop tableSize) (split ls n b t f) ∙ drop-at (front ls n b t f) (drop tableSize t) tableSize (front-length ls n b t f),
 )
 
+-- ---- cleared tables
+
+zeros-length : length (replicate tableSize zero32) ≡ tableSize
+zeros-length = length-replicate tableSize zero32
+
+pub cleared-fits : (ls : List Link) (n : ℕ) (t : List Float) → Fits ls n t → Fits ls n (cleared t)
+cleared-fits ls n t f = record {
+  places = f .places;
+  few = f .few;
+  long = omega (arith, length-append (replicate tableSize zero32) (drop tableSize t), zeros-length);
+}
+
+pub cleared-block : (t : List Float) (j : ℕ) → j < linkLimit → blockAt j (cleared t) ≡ zeroBlock
+cleared-block t j h =
+    block-front blockSize linkLimit (replicate tableSize zero32) (drop tableSize t) zeros-length j h ∙ replicated blockSize linkLimit zero32 j h
+
 -- ---- like the full pass
 
 module _ (ls : List Link) (n : ℕ) (b : ℕ → Bool) (t : List Float) (f : Fits ls n t) (r : Ready ls n b t) where
-  zeros-length : length (replicate tableSize zero32) ≡ tableSize
-  zeros-length = length-replicate tableSize zero32
-
   f′ : Fits ls n (cleared t)
-  f′ = record { places = f .places; few = f .few; long = omega (arith, length-append (replicate tableSize zero32) (drop tableSize t), zeros-length) }
+  f′ = cleared-fits ls n t f
 
   full-kept : (j : ℕ) → j < n → keptAt (stateAfter ls n b t) j ≡ keptAt (stateAfter ls n everyLink (cleared t)) j
   unfolding stateAfter laws
@@ -110,21 +123,25 @@ module _ (ls : List Link) (n : ℕ) (b : ℕ → Bool) (t : List Float) (f : Fit
 
   full-fine : fineAfter ls n b t ≡ fineAfter ls n everyLink (cleared t)
   unfolding fineAfter stateAfter laws
-  full-fine = pass-tests keptOps (parentAt ls) (inputsOf ls) linkLimit n (f .few) laws b (r .closed) (state ls t) (f .places, f .long) (r .fresh) (state ls (cleared t)) (f′ .places, f′ .long) finiteKept (r .finite)
-
-  zero-block : (j : ℕ) → j < linkLimit → blockAt j (cleared t) ≡ zeroBlock
-  zero-block j h = block-front blockSize linkLimit (replicate tableSize zero32) (drop tableSize t) zeros-length j h ∙ replicated blockSize linkLimit zero32 j h
+  full-fine =
+      pass-tests keptOps (parentAt ls) (inputsOf ls) linkLimit n (f .few) laws b (r .closed) (state ls t) (f .places, f .long) (r .fresh)
+      (state ls (cleared t)) (f′ .places, f′ .long) finiteKept (r .finite)
 
   same-all : (j : ℕ) → j < linkLimit → keptAt (stateAfter ls n b t) j ≡ keptAt (stateAfter ls n everyLink (cleared t)) j
   same-all j h = elim (decLt j n) [
     | yes q ↦ full-kept j q
-    | no q ↦ after-beyond ls n b t f j (omega arith) ∙ same-kept ls t (cleared t) j (r .unused j (omega arith) h ∙ sym (zero-block j h)) ∙ sym (after-beyond ls n everyLink (cleared t) f′ j (omega arith))
+    | no q ↦
+        after-beyond ls n b t f j (omega arith)
+        ∙ same-kept ls t (cleared t) j (r .unused j (omega arith) h ∙ sym (cleared-block t j h))
+        ∙ sym (after-beyond ls n everyLink (cleared t) f′ j (omega arith))
   ]
 
   same-links : stateAfter ls n b t .links ≡ stateAfter ls n everyLink (cleared t) .links
   same-links =
       ext-getD noLink _ _ (after-good ls n b t f .0 ∙ sym (after-good ls n everyLink (cleared t) f′ .0)) (λ j h.
-      link-back (stateAfter ls n b t) (stateAfter ls n everyLink (cleared t)) j (after-blank ls n b t j ∙ sym (after-blank ls n everyLink (cleared t) j)) (same-all j (omega (arith, after-good ls n b t f .0))))
+      link-back (stateAfter ls n b t) (stateAfter ls n everyLink (cleared t)) j
+      (after-blank ls n b t j ∙ sym (after-blank ls n everyLink (cleared t) j))
+      (same-all j (omega (arith, after-good ls n b t f .0))))
 
   same-tables : stateAfter ls n b t .tables ≡ stateAfter ls n everyLink (cleared t) .tables
   same-tables =
@@ -197,7 +214,9 @@ module _ (ls ls′ : List Link) (n : ℕ) (b : ℕ → Bool) (t : List Float) (f
   agree (suc k) h = go (b k) (agree k (omega arith))
     where
       go : (m : Bool) → Agree (stateAfter ls k b t) (stateAfter ls′ k b t)
-          → Agree (cond m (putKept (stateAfter ls k b t) k (resultOf ls (stateAfter ls k b t) k)) (stateAfter ls k b t)) (cond m (putKept (stateAfter ls′ k b t) k (resultOf ls′ (stateAfter ls′ k b t) k)) (stateAfter ls′ k b t))
+          → Agree
+          (cond m (putKept (stateAfter ls k b t) k (resultOf ls (stateAfter ls k b t) k)) (stateAfter ls k b t))
+          (cond m (putKept (stateAfter ls′ k b t) k (resultOf ls′ (stateAfter ls′ k b t) k)) (stateAfter ls′ k b t))
       go true a =
           put-agree (stateAfter ls k b t) (stateAfter ls′ k b t) k _ _ h
           (after-good ls k b t (fits-at ls k (omega arith) f) .0 ∙ sym (after-good ls′ k b t (fits-at ls′ k (omega arith) f′) .0))

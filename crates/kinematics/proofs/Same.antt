@@ -37,7 +37,8 @@ module _ (ls : List Link) (b b′ : ℕ → Bool) (t : List Float) where
   laid-marks new new′ w zero h e = refl
   laid-marks new new′ w (suc n) h e = rw (h n (omega arith), e n (omega arith), laid-marks new new′ w n (λ j l. h j (omega arith)) (λ j l. e j (omega arith)))
 
-  pub worked-marks : (n : ℕ) → ((j : ℕ) → j < n → b j ≡ b′ j) → (work work′ : List Float) (links : List Link) (fine : Bool) → WorkedOut ls n b t work work′ links fine → WorkedOut ls n b′ t work work′ links fine
+  pub worked-marks : (n : ℕ) → ((j : ℕ) → j < n → b j ≡ b′ j) → (work work′ : List Float) (links : List Link) (fine : Bool)
+      → WorkedOut ls n b t work work′ links fine → WorkedOut ls n b′ t work work′ links fine
   unfolding newBlock
   worked-marks n h work work′ links fine k = record {
     blocks = k .blocks ∙ laid-marks _ _ work n h (λ j l. ap (λ (s : State). resultOf ls s j .block) (state-marks j (λ i m. h i (omega arith))));

@@ -82,7 +82,8 @@ module _ (ls : List Link) (b : ℕ → Bool) (t : List Float) where
   tables-after (suc n) = go (b n) (tables-after n)
     where
       go : (m : Bool) → stateAfter ls n b t .tables ≡ blocksLaid b (newBlock ls b t) n t
-          → cond m (putKept (stateAfter ls n b t) n (newOf n)) (stateAfter ls n b t) .tables ≡ cond m (withBlock n (newOf n .block) (blocksLaid b (newBlock ls b t) n t)) (blocksLaid b (newBlock ls b t) n t)
+          → cond m (putKept (stateAfter ls n b t) n (newOf n)) (stateAfter ls n b t) .tables
+          ≡ cond m (withBlock n (newOf n .block) (blocksLaid b (newBlock ls b t) n t)) (blocksLaid b (newBlock ls b t) n t)
       go true e = ap (withBlock n (newOf n .block)) e
       go false e = e
 
@@ -305,8 +306,8 @@ module _ (ls : List Link) (n : ℕ) (fit : n ≤ linkLimit) (sized : length ls �
         }
 
 -- all turns are done
-pub held-all : (ls : List Link) (n : ℕ) → n ≤ linkLimit → length ls ≡ linkLimit → (b : ℕ → Bool) (t work₀ : List Float) → tableSize ≤ length t → (j start : ℕ) (work : List Float) (links : List Link) (fine : Bool)
-    → Held ls n b t work₀ j start work links fine → n ≤ j → WorkedOut ls n b t work₀ work links fine
+pub held-all : (ls : List Link) (n : ℕ) → n ≤ linkLimit → length ls ≡ linkLimit → (b : ℕ → Bool) (t work₀ : List Float) → tableSize ≤ length t
+    → (j start : ℕ) (work : List Float) (links : List Link) (fine : Bool) → Held ls n b t work₀ j start work links fine → n ≤ j → WorkedOut ls n b t work₀ work links fine
 held-all ls n fit sized b t work₀ long j start work links fine k h =
     let e : j ≡ n = omega arith in
     record {

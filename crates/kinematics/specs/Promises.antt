@@ -1,22 +1,20 @@
 -- What the pass over marked links promises, over the definitions that the contracts cite.
-use Prim.Native.Nat.{ℕ, _+_, _*_, _≤_, _<_}
+use Prim.Native.Nat.{ℕ, _+_, _≤_, _<_}
 use mathlib.Core.Path.{_≡_}
 use mathlib.Core.Bool.{Bool, true, false}
-use mathlib.Core.List.{List, map}
-use lib.ListN.{length, drop, getD}
-use lib.Ieee.{Float, nan}
+use mathlib.Core.List.{List}
+use lib.ListN.{length, drop}
+use lib.Ieee.{Float}
 use Rattle.kinematics.specs.Inner.{resultOf}
-use Rattle.arm.specs.Arm.{linkAt, lockedOf}
+use Rattle.arm.specs.Arm.{linkAt}
 use Rattle.limits.specs.Limits.{linkLimit, dofLimit, blockSize, tableSize}
-use Rattle.floats.specs.Floats.{zero32}
-use Rattle.masks.specs.Masks.{dofsOf}
-use Rattle.masks.specs.Starts.{startOf}
 use Rattle.planar.specs.Poses.{finitePoint}
 use Rattle.arm.specs.declared.Link.{Link}
 use Rattle.kinematics.specs.Blocks.{blockAt, zeroBlock}
 use Rattle.kinematics.specs.declared.Posed.{Posed}
 use Rattle.kinematics.specs.Link.{blockFrom, finiteKept}
 use Rattle.kinematics.specs.State.{State, state, keptAt, stateAfter, fineAfter, cleared, parentAt, everyLink}
+use Rattle.kinematics.specs.Unused.{ZeroAt, OwnColumn, UnusedZero}
 
 -- what is kept of link j is what its parent's gives
 abbrev pub Fresh : List Link → List Float → ℕ → Type 0
@@ -68,16 +66,12 @@ UpTo = (ls ls′ : List Link) (n : ℕ) (b : ℕ → Bool) (t : List Float) → 
     × (stateAfter ls n b t .tables ≡ stateAfter ls′ n b t .tables)
     × (fineAfter ls n b t ≡ fineAfter ls′ n b t)
 
--- the columns of a block from d on hold +0
-abbrev pub ZeroFrom : ℕ → List Float → Type 0
-ZeroFrom d b = (c : ℕ) → d ≤ c → c < dofLimit → (getD b c nan ≡ zero32) × (getD b (dofLimit + c) nan ≡ zero32) × (getD b (2 * dofLimit + c) nan ≡ zero32)
-
--- where a link's results are finite: with +0 in the columns of the copied block past the link's own, they stay +0
+-- where a link's shifts are finite, a column that isn't its own and holds +0 in the copied block stays +0
 abbrev pub ZerosStay : Type 0
-ZerosStay = (p : Posed) (locked start d : ℕ) (b : List Float) → length b ≡ blockSize → start + 3 ≤ dofLimit → start + dofsOf locked ≤ d
-    → finitePoint (p .shift02) ≡ true → finitePoint (p .shift23) ≡ true → ZeroFrom d b → ZeroFrom d (blockFrom p locked start b)
+ZerosStay = (p : Posed) (locked start c : ℕ) (b : List Float) → length b ≡ blockSize → start + 3 ≤ dofLimit → c < dofLimit → (OwnColumn start locked c → ⊥)
+    → finitePoint (p .shift02) ≡ true → finitePoint (p .shift23) ≡ true → ZeroAt c b → ZeroAt c (blockFrom p locked start b)
 
--- so where all is finite the full pass leaves +0 in each block past its link's own columns
-abbrev pub ZerosPast : Type 0
-ZerosPast = (ls : List Link) (n : ℕ) (t : List Float) → Fits ls n t → fineAfter ls n everyLink t ≡ true → (j : ℕ) → j < n
-    → ZeroFrom (startOf (map lockedOf ls) j + dofsOf (linkAt ls j .joint .locked)) (blockAt j (stateAfter ls n everyLink t .tables))
+-- so where all is finite the full pass over cleared tables leaves +0 in every unused place
+abbrev pub UnusedLeft : Type 0
+UnusedLeft = (ls : List Link) (n : ℕ) (t : List Float) → Fits ls n t → fineAfter ls n everyLink (cleared t) ≡ true
+    → UnusedZero ls n (stateAfter ls n everyLink (cleared t) .tables)

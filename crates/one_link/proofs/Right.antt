@@ -2,23 +2,30 @@
 use Prim.Native.Nat.{ℕ, zero, suc, _≤_, _<_}
 use mathlib.Core.Path.{_≡_, refl, sym, ap, ap₂, subst, _∙_}
 use mathlib.Core.Bool.{Bool, true, false}
-use mathlib.Core.List.{List}
+use mathlib.Core.List.{List, [], map}
 use native.Mathlib.Omega.{arith}
-use lib.ListN.{length, drop}
+use lib.ListN.{length, drop, getD}
 use lib.Ieee.{Float}
 use Rattle.arm.proofs.Accepted.{Accepted, not-refused}
 use Rattle.arm.specs.Setters.{withLinks}
 use Rattle.arm.specs.Sized.{Sized}
-use Rattle.arm.specs.Arm.{linkAt}
+use Rattle.lists.specs.Lists.{part}
+use Rattle.masks.specs.Masks.{dofsOf}
+use Rattle.masks.specs.Starts.{startOf}
+use Rattle.arm.specs.declared.Row.{Row}
+use Rattle.arm.specs.declared.RowName.{RowName}
+use Rattle.arm.specs.Arm.{linkAt, masksOf, maskAt, startAt, entriesOf, rowNumber}
 use Rattle.limits.specs.Limits.{linkLimit, tableSize}
 use Rattle.arm.specs.declared.Arm.{Arm}
 use Rattle.kinematics.specs.Blocks.{blockAt}
-use Rattle.kinematics.specs.State.{State, stateAfter, fineAfter}
+use Rattle.kinematics.specs.State.{State, stateAfter, fineAfter, cleared, everyLink}
 use Rattle.full_working.specs.Outcome.{Outcome, says, unlessRefused, workedAll, workedMarked}
 use Rattle.full_working.specs.Full.{fullRefusal, fullWorking, Settled}
 use Rattle.kinematics.specs.Promises.{Fits, Ready}
-use Rattle.one_link.specs.Promise.{Right}
+use Rattle.one_link.specs.Promise.{ownEntries, Untouched, Right}
+use Rattle.kinematics.proofs.Store.{after-blank}
 use Rattle.kinematics.proofs.Promises.{after-good, stays, like-full}
+use Rattle.one_link.proofs.Relinked.{same-masks}
 use Rattle.one_link.proofs.Settles.{allState, allFine, workedTo, worked-all, worked-marked, full-is, settles, facts}
 
 -- what a call owes of the arm with the new inputs, and of its marks
@@ -28,6 +35,13 @@ pub record Edit (a : Arm) (t : List Float) (new : Arm) (b : ℕ → Bool) (Below
   pub ready : Ready (new .links) (new .«link_count») b t
   pub ok : allFine new t ≡ true → Accepted new
   pub apart : (j : ℕ) → j < linkLimit → (Below j → ⊥) → (j < new .«link_count» → b j ≡ false) × (linkAt (new .links) j ≡ linkAt (a .links) j)
+  pub entries : (j : ℕ) → j < linkLimit → (Below j → ⊥) → (name : RowName) → ownEntries new name j ≡ ownEntries a name j
+
+-- a link's own entries are found by the masks alone
+pub same-entries : (a b : Arm) → masksOf a ≡ masksOf b → a .rows ≡ b .rows → (name : RowName) (j : ℕ) → ownEntries a name j ≡ ownEntries b name j
+unfolding startAt maskAt
+same-entries a b e q name j =
+    ap₂ (λ (ms : List ℕ) (rows : List Row). part (startOf ms j) (dofsOf (getD ms j 7)) (getD (map entriesOf rows) (rowNumber name) [])) e q
 
 refused-full : (k : ℕ) (a : Arm) (t : List Float) (next : Outcome) → next ≡ says 12 a t → unlessRefused k a t next .answer .refusal ≡ 0 → ⊥
 unfolding unlessRefused
@@ -59,11 +73,22 @@ module _ (a : Arm) (t : List Float) (sized : Sized a) (settled : Settled a t) (n
       ∙ ap₂ (λ (f : Bool) (x : State). workedTo f a new x t) same-fine same-state
       ∙ sym (worked-all a new t (e .few) long)
 
-  stay : (j : ℕ) → j < linkLimit → (Below j → ⊥) → (linkAt (s .links) j ≡ linkAt (a .links) j) × (blockAt j (s .tables) ≡ blockAt j t)
+  -- a pass leaves the masks
+  masks-left : masksOf (withLinks new (s .links)) ≡ masksOf new
+  masks-left =
+      same-masks new (s .links)
+      (ap (λ (x : State). length (x .links)) (sym same-state) ∙ after-good (new .links) n b t fits .0 ∙ sym (e .sized .links))
+      (after-blank (new .links) n everyLink (cleared t))
+
+  stay : (j : ℕ) → j < linkLimit → (Below j → ⊥) → Untouched a t (says 0 (withLinks new (s .links)) (s .tables)) j
   stay j h z =
       let p = e .apart j h z in
       let q = stays (new .links) n b t fits .0 j h (p .0) in
-      (ap (λ (x : State). linkAt (x .links) j) (sym same-state) ∙ q .0 ∙ p .1, ap (λ (x : State). blockAt j (x .tables)) (sym same-state) ∙ q .1)
+      record {
+        link = ap (λ (x : State). linkAt (x .links) j) (sym same-state) ∙ q .0 ∙ p .1;
+        block = ap (λ (x : State). blockAt j (x .tables)) (sym same-state) ∙ q .1;
+        entries = λ name. same-entries (withLinks new (s .links)) new masks-left refl name j ∙ e .entries j h z name;
+      }
 
   not-full : allFine new t ≡ false → fullWorking new t .answer .refusal ≡ 0 → ⊥
   unfolding fullWorking
@@ -97,7 +122,7 @@ module _ (a : Arm) (t : List Float) (sized : Sized a) (settled : Settled a t) (n
         exactly = λ z. (λ y. not-full g, λ h. refl);
         as-full = λ z. absurd (omega arith);
         left = λ h. (refl, refl);
-        untouched = λ j h z. (refl, refl);
+        untouched = λ j h z. record { link = refl; block = refl; entries = λ name. refl };
         behind = refl;
         settled = settled;
         sized = sized;
@@ -116,7 +141,7 @@ right a t sized settled (suc k) new b Below e = record {
   exactly = λ z. absurd (omega arith);
   as-full = λ z. absurd (omega arith);
   left = λ h. (refl, refl);
-  untouched = λ j h z. (refl, refl);
+  untouched = λ j h z. record { link = refl; block = refl; entries = λ name. refl };
   behind = refl;
   settled = settled;
   sized = sized;

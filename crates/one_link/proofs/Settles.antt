@@ -13,12 +13,11 @@ use Rattle.kinematics.specs.Inner.{resultOf}
 use Rattle.arm.proofs.Accepted.{Accepted, accepted, not-refused}
 use Rattle.arm.specs.Setters.{withLinks, withPlace}
 use Rattle.lists.proofs.Lists.{same-map}
-use Rattle.lists.proofs.Parts.{block-front, replicated}
 use Rattle.lists.specs.Tests.{every}
 use Rattle.lists.proofs.Every.{every-at, every-of}
 use Rattle.lists.proofs.Numbers.{all-at, all-below}
 use Rattle.lists.proofs.Bools.{both-hold}
-use Rattle.limits.specs.Limits.{linkLimit, blockSize, tableSize}
+use Rattle.limits.specs.Limits.{linkLimit, tableSize}
 use Rattle.refusal.specs.Refusal.{lowerOf}
 use Rattle.refusal.proofs.Tests.{holds}
 use Rattle.refusal.proofs.Laws.{none-of}
@@ -38,7 +37,7 @@ use Rattle.kinematics.specs.Pass.{run}
 use Rattle.full_working.specs.Outcome.{Outcome, out, says, unlessRefused, tablesFit, workedBy, workedAll, workedMarked}
 use Rattle.full_working.specs.Full.{fullRefusal, fullWorking, Settled}
 use Rattle.kinematics.specs.Promises.{Fresh, Fits, Ready}
-use Rattle.kinematics.proofs.Promises.{after-good, all-fresh, stays, like-full}
+use Rattle.kinematics.proofs.Promises.{cleared-block, after-good, all-fresh, stays, like-full}
 use Rattle.one_link.proofs.Relinked.{relinked, link-finite}
 
 -- ---- the working of an arm, by the test of its results
@@ -97,9 +96,6 @@ untested ls n t = all-below n _ (λ j h. refl)
 
 pub cleared-long : (t : List Float) → tableSize ≤ length (cleared t)
 cleared-long t = omega (arith, length-append (replicate tableSize zero32) (drop tableSize t), length-replicate tableSize zero32)
-
-cleared-block : (t : List Float) (j : ℕ) → j < linkLimit → blockAt j (cleared t) ≡ zeroBlock
-cleared-block t j h = block-front blockSize linkLimit (replicate tableSize zero32) (drop tableSize t) (length-replicate tableSize zero32) j h ∙ replicated blockSize linkLimit zero32 j h
 
 -- parents and inputs are those of the links without their results
 module _ (ls gs : List Link) (l : length ls ≡ length gs) (e : (j : ℕ) → blank (linkAt ls j) ≡ blank (linkAt gs j)) where

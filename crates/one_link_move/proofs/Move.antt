@@ -44,7 +44,7 @@ use Rattle.kinematics.specs.Promises.{Fresh, Ready}
 use Rattle.one_link.proofs.Parents.{parents-count, parent-of, parent-le}
 use Rattle.one_link.proofs.Settles.{allFine, Facts, facts}
 use Rattle.one_link.proofs.Sticky.{rotations-finite}
-use Rattle.one_link.proofs.Right.{Edit, right}
+use Rattle.one_link.proofs.Right.{Edit, same-entries, right}
 use Rattle.one_link_move.specs.declared.Change.{Change}
 use Rattle.one_link_move.specs.Change.{changed, movedInputs}
 use Rattle.one_link_move.specs.Move.{changeFinite, angleWithin, moveRefusal, linkMoved}
@@ -225,6 +225,7 @@ module _ (a : Arm) (t : List Float) (sized : Sized a) (settled : Settled a t) (l
     ready = ready;
     ok = still-ok;
     apart = λ j h z. (λ q. unmarked j q z, modify-other (changed change) link j ls noLink (λ q. z (subst (AtOrBelow a link) (sym q) (k .there, itself))));
+    entries = λ j h z name. same-entries new a new-masks refl name j;
   }
 
 pub the-move : (a : Arm) (t : List Float) → Sized a → Settled a t → (link : ℕ) (change : Change)

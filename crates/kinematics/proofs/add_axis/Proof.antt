@@ -1,11 +1,24 @@
 -- `add_axis`: the column of a free axis stands within the joint's own. Assumes nothing.
 use Rattle.kinematics.specs.Blocks.{axisAdded}
+use Prim.Native.Nat.{_<_}
 use mathlib.Core.Path.{_∙_, sym}
 use native.Mathlib.Omega.{arith}
-use Rattle.masks.proofs.Laws.{below-le, below-free, dofs-le}
+use Rattle.masks.specs.Masks.{dofsBelow, dofsOf}
+use Rattle.masks.proofs.Laws.{below-free, dofs-le}
 use borrow.Author.Needs.{needs}
 use Rattle.kinematics.proofs.add_axis.Statement.{statement}
 use Rattle.kinematics.proofs.add_axis.Tie as tie
+
+-- ---- places, each from a later one
+
+abbrev start : tie.Then1 → tie.Start
+start c = c .before .before .before
+
+-- a free axis' column is one of the joint's own
+within : (c : tie.Then1) → let own = start c .args in dofsBelow (own .locked) (own .axis) < dofsOf (own .locked)
+within c = let own = start c .args in below-free (own .locked) (own .axis) (sym (c .before .is-free .ensures) ∙ c .if1 .taken)
+
+-- ---- the answers
 
 is-free-requires : tie.Need-is-free-requires
 is-free-requires c κs = search needs
@@ -14,17 +27,24 @@ dofs-below-requires : tie.Need-dofs-below-requires
 dofs-below-requires c κs = search needs
 
 add-add-column : tie.Need-add-add-column
-add-add-column c = omega (arith, c .dofs-below .ensures, below-le (c .before .before .before .before .before .args .locked) (c .before .before .before .before .before .args .axis), dofs-le (c .before .before .before .before .before .args .locked), c .before .before .before .before .before .pre)
+add-add-column c =
+    let free = c .before .before in
+    omega (arith, c .dofs-below .ensures, within free, dofs-le (start free .args .locked), start free .pre)
 
 add-column-requires : tie.Need-add-column-requires
-add-column-requires c κs = omega (arith, c .dofs-below .ensures, below-free (c .before .before .before .before .before .args .locked) (c .before .before .before .before .before .args .axis) (sym (c .before .before .before .is-free .ensures) ∙ c .before .before .if1 .taken), dofs-le (c .before .before .before .before .before .args .locked), c .before .before .before .before .before .pre)
+add-column-requires c κs =
+    let free = c .before .before in
+    omega (arith, c .dofs-below .ensures, within free, dofs-le (start free .args .locked), start free .pre)
 
 same-length : tie.Need-same-length
 same-length c = search needs
 
 returns : tie.Need-returns
 unfolding axisAdded
-returns c = rw (sym (c .before .before .before .before .before .before .is-free .ensures) ∙ c .before .before .before .before .before .if1 .taken) (c .before .before .add-column .ensures ∙ rw (c .before .before .before .dofs-below .ensures))
+returns c =
+    let below = c .before .before .before in
+    let free = below .before .before in
+    rw (sym (free .before .is-free .ensures) ∙ free .if1 .taken) (c .before .before .add-column .ensures ∙ rw (below .dofs-below .ensures))
 
 returns-2 : tie.Need-returns-2
 unfolding axisAdded

@@ -9,8 +9,21 @@ use borrow.Author.Needs.{needs}
 use Rattle.kinematics.proofs.refresh_all.Statement.{statement}
 use Rattle.kinematics.proofs.refresh_all.Tie as tie
 
+-- ---- places, each from a later one
+
+abbrev start : tie.Else1 → tie.Start
+start c = c .before .before
+
+abbrev counted : tie.After-work-out → tie.After-fewer
+counted c = c .before .before .before
+
+abbrev worked : tie.Else2 → tie.After-work-out
+worked c = c .before .before .before
+
+-- ---- the answers
+
 returns : tie.Need-returns
-returns c = all-short (c .before .before .args .links) (c .before .before .args .n) (c .before .before .args .tables .now) (c .if1 .taken)
+returns c = let own = c .before .before .args in all-short (own .links) (own .n) (own .tables .now) (c .if1 .taken)
 
 fewer-requires : tie.Need-fewer-requires
 fewer-requires c κs = search needs
@@ -25,7 +38,13 @@ same-length : tie.Need-same-length
 same-length c = search needs
 
 returns-2 : tie.Need-returns-2
-returns-2 c = all-no (c .before .before .before .before .before .before .before .before .before .args .links) (c .before .before .before .before .before .before .before .before .before .args .n) (c .before .before .before .before .before .before .before .before .before .args .tables .now) (c .before .before .before .before .before .before .before .before .before .good .0 .1 .0 .1) (omega (arith, c .before .before .before .before .before .before .before .if1 .left)) (c .before .before .before .before .before .before .fewer .result) (c .before .before .before .before .before .before .fewer .ensures) (c .before .before .before .work-out .last .1 .1 .1 .1 .0) (c .before .before .before .work-out .result) (c .before .before .before .work-out .ensures) (not-true (c .before .before .before .work-out .result .fine) (c .if2 .taken))
+returns-2 c =
+    let w = c .before .before .before in
+    let number = counted w in
+    let at = start (number .before) in
+    all-no (at .args .links) (at .args .n) (at .args .tables .now) (at .good .0 .1 .0 .1) (omega (arith, number .before .if1 .left))
+    (number .fewer .result) (number .fewer .ensures) (w .work-out .last .1 .1 .1 .1 .0) (w .work-out .result) (w .work-out .ensures)
+    (not-true (w .work-out .result .fine) (c .if2 .taken))
 
 slice-aggregate-copy : tie.Need-slice-aggregate-copy
 slice-aggregate-copy c = search needs
@@ -37,7 +56,14 @@ same-length-2 : tie.Need-same-length-2
 same-length-2 c = search needs
 
 returns-3 : tie.Need-returns-3
-returns-3 c = all-yes (c .before .before .before .before .before .before .before .before .before .before .before .before .before .before .args .links) (c .before .before .before .before .before .before .before .before .before .before .before .before .before .before .args .n) (c .before .before .before .before .before .before .before .before .before .before .before .before .before .before .args .tables .now) (c .before .before .before .before .before .before .before .before .before .before .before .before .before .before .good .0 .1 .0 .1) (omega (arith, c .before .before .before .before .before .before .before .before .before .before .before .before .if1 .left)) (c .before .before .before .before .before .before .before .before .before .before .before .fewer .result) (c .before .before .before .before .before .before .before .before .before .before .before .fewer .ensures) (c .before .before .before .before .before .before .before .before .work-out .last .1 .1 .1 .1 .0) (c .before .before .before .before .before .before .before .before .work-out .result) (c .before .before .before .before .before .before .before .before .work-out .ensures) (not-false (c .before .before .before .before .before .before .before .before .work-out .result .fine) (c .before .before .before .before .before .if2 .left)) _ (c .before .before .copy .ensures)
+returns-3 c =
+    let fine = c .before .before .before .before .before in
+    let w = worked fine in
+    let number = counted w in
+    let at = start (number .before) in
+    all-yes (at .args .links) (at .args .n) (at .args .tables .now) (at .good .0 .1 .0 .1) (omega (arith, number .before .if1 .left))
+    (number .fewer .result) (number .fewer .ensures) (w .work-out .last .1 .1 .1 .1 .0) (w .work-out .result) (w .work-out .ensures)
+    (not-false (w .work-out .result .fine) (fine .if2 .left)) _ (c .before .before .copy .ensures)
 
 pub refresh-all-spec : {M : Type 1} → statement M
 refresh-all-spec =

@@ -70,8 +70,13 @@ loop-less c = search needs
 
 loop-again : tie.Need-loop-again Inv-loop μ-loop
 loop-again c =
-    let b = c .before .before .before .before .before .before .args .block .now in
-    (omega arith, simp (length-set, length-set) (c .before .before .before .before .loop .inv .1), columns-more _ _ b (c .before .before .before .before .before .before .pre) (c .before .before .before .before .loop .c) (omega arith) (c .before .before .before .before .loop .block) (c .before .before .before .before .loop .inv .2) _ refl _ refl)
+    let turn = c .before .before .before .before in
+    let start = turn .before .before in
+    let now = turn .loop in (
+      omega arith,
+      simp (length-set, length-set) (now .inv .1),
+      columns-more _ _ (start .args .block .now) (start .pre) (now .c) (omega arith) (now .block) (now .inv .2) _ refl _ refl,
+    )
 
 same-length : tie.Need-same-length Inv-loop μ-loop
 same-length c = search needs
@@ -79,10 +84,13 @@ same-length c = search needs
 returns : tie.Need-returns Inv-loop μ-loop
 unfolding shifted
 returns c =
-    let f = plusTimes (neg (c .before .before .before .args .shift .y)) in
-    let g = plusTimes (c .before .before .before .args .shift .x) in
-    let e : c .before .loop .c ≡ dofLimit = omega arith in
-    c .before .loop .inv .2 ∙ ap (λ (k : ℕ). columnsTo f g k (c .before .before .before .args .block .now)) e ∙ columns-done f g (c .before .before .before .args .block .now) (c .before .before .before .pre)
+    let start = c .before .before .before in
+    let now = c .before .loop in
+    let b = start .args .block .now in
+    let f = plusTimes (neg (start .args .shift .y)) in
+    let g = plusTimes (start .args .shift .x) in
+    let e : now .c ≡ dofLimit = omega arith in
+    now .inv .2 ∙ ap (λ (k : ℕ). columnsTo f g k b) e ∙ columns-done f g b (start .pre)
 
 pub shift-block-spec : {M : Type 1} → statement M
 shift-block-spec =
