@@ -10,7 +10,8 @@
  *   - No other thread writes a slice during the call, nor reads one that is written.
  *
  * Every call that can be refused returns a struct with a field `refusal`: 0, or a number from 1 to 12, the lowest that applies. Beside it stands what is
- * asked for: a count, an arm or floats. Where refused that is zeros, an arm the one that came, and nothing that was lent has changed. */
+ * asked for: a count, an arm or floats. Where refused that is zeros, an edited arm the one that came, and where an arm is made (`giellavor_empty`, the
+ * parts) the empty one; and nothing that was lent has changed. */
 #ifndef GIELLAVOR_H
 #define GIELLAVOR_H
 
@@ -306,7 +307,8 @@ GiellavorEdited giellavor_free_root(GiellavorArm arm, float *tables, size_t tabl
 /* The root is fixed at a pose. Refused: as above. */
 GiellavorEdited giellavor_fix_root(GiellavorArm arm, float *tables, size_t tables_len, GiellavorPose pose);
 
-/* ---- Parts: each of a split's is an arm, worked out into tables of its own. Refused: 1 to 5, 7, 9, 12. */
+/* ---- Parts: each of a split's is an arm, worked out into tables of its own. Refused: 1 to 5, 7, 9, 12; then it is the empty arm, beside
+ * tables that are as they were. */
 
 /* Part `number` after a link is deleted. */
 GiellavorEdited giellavor_part_delete(GiellavorArm arm, uint32_t link, uint32_t number, float *tables, size_t tables_len);

@@ -16,7 +16,7 @@ typedef struct Picture {
     float tables[GIELLAVOR_TABLES];
 } Picture;
 
-/* Takes over the arm of an answer. Refused, it is the one that came, and so the old one stays. */
+/* Takes over the arm of an answer. Refused there is none to take, a part being empty then, and the old one stays. */
 static uint8_t took(Picture *picture, GiellavorEdited edited)
 {
     if (edited.refusal == 0) {

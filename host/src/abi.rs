@@ -7,11 +7,12 @@
 //! [`crate::Arm`] sees to it that nothing that is kept of an arm is ever stale. Who holds an [`Arm`] and its tables themselves, for [`ffi`](crate::ffi),
 //! has the same where they keep to this:
 //!
-//! - **Begin** with an arm that was made over these tables: by `ffi::empty`, as a part of a split (`ffi::part_delete`, `ffi::part_cut`), or by
-//!   `ffi::full_working` where that is not refused.
+//! - **Begin** with an arm that was made over these tables, by a call that was not refused: by `ffi::empty`, as a part of a split (`ffi::part_delete`,
+//!   `ffi::part_cut`), or by `ffi::full_working`.
 //! - **The same tables** go with the arm into every call that takes tables. Each arm has tables of its own.
 //! - **Nobody else writes** the arm or the first [`TABLES`](crate::TABLES) floats of its tables: every edit is a call, and its answer's arm is the arm
-//!   from then on. A refused call answers the arm as it came.
+//!   from then on. A refused one answers the arm as it came. A part is another arm than the one that is split; refused, it is the empty arm, beside
+//!   tables that are as they were, and nothing begins with it.
 //!
 //! Then after any calls, refused ones included, every pose, shift and float of the tables is bit for bit what the full working gives. Whether it is so,
 //! [`Arm::is_settled`] says; after a write past the library a full working makes it so again, and [`crate::Arm::from_state`] takes such an arm over.

@@ -2,8 +2,8 @@
 //! a plug-in that keeps its memory itself. `tests/boundary` holds the declarations against the Rattle source.
 //!
 //! Any value of any argument gets an answer. A refusal has a number, [`Refusal::number`](crate::Refusal::number), and then nothing that was lent has
-//! changed: it is the answer's field `refusal`, 0 for none, and what stands beside it is zeros where refused. What edits an [`Edited`] puts the answer in
-//! its place and returns its refusal: a refused one leaves the arm as it was.
+//! changed: it is the answer's field `refusal`, 0 for none, and what stands beside it is zeros where refused, or the empty arm where an arm is made
+//! ([`empty`], the parts). What edits an [`Edited`] puts the answer in its place and returns its refusal: a refused one leaves the arm as it was.
 //!
 //! An arm's picture is its poses, shifts and tables. It stays fresh where an arm from [`empty`], or from a part of a split, and the tables that it was worked
 //! out into go through these functions together. Whoever writes either by hand, or hands in other tables, calls [`full_working`] first.
@@ -193,10 +193,10 @@ exported! {
 // ---- Parts: each of a split's is an arm, worked out into tables of its own
 
 exported! {
-    /// Part `number` after a link is deleted, worked out into tables of its own. Refused: 1 to 5, 7, 9, 12.
+    /// Part `number` after a link is deleted, worked out into tables of its own. Refused: 1 to 5, 7, 9, 12; then it is the empty arm.
     fn part_delete(arm: &Arm, link: u32, number: u32, tables: &mut [f32]) -> Edited;
 
-    /// Part `number` after a link's joint is cut, worked out into tables of its own. Refused: 1 to 5, 7, 9, 12.
+    /// Part `number` after a link's joint is cut, worked out into tables of its own. Refused: 1 to 5, 7, 9, 12; then it is the empty arm.
     fn part_cut(arm: &Arm, link: u32, number: u32, tables: &mut [f32]) -> Edited;
 }
 

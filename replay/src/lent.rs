@@ -1,7 +1,7 @@
 //! The exported functions, with an arm and tables that the caller keeps.
 //!
-//! What a script's answer doesn't show is looked at here: that a refused call left the arm and its tables as they were, that none wrote tables which it
-//! wasn't lent, and that functions which answer the same question agree.
+//! What a script's answer doesn't show is looked at here: that a refused call left the arm and its tables as they were, that a refused part is the empty
+//! arm, that none wrote tables which it wasn't lent, and that functions which answer the same question agree.
 
 use crate::terms::{floats_of, limits, new_coupling, new_link, point, pose};
 use giellavor::abi::{Arm, Counted, Edited, Force, Spring};
@@ -50,6 +50,11 @@ fn new_tables() -> Vec<f32> {
     let mut tables = vec![0.0; LENT];
     tables[TABLES..].fill(f32::from_bits(PAST));
     tables
+}
+
+/// The arm of no links: it is answered over too little memory too.
+fn empty_arm() -> Arm {
+    ffi::empty(&mut []).arm
 }
 
 fn row_of(answer: &giellavor::abi::ConstraintRow) -> Answer<ConstraintRow> {
@@ -188,15 +193,21 @@ impl Engine for Lent {
             Split::Delete => ffi::part_delete,
             Split::Cut => ffi::part_cut,
         };
-        self.call(lent, |edited, tables| {
+        let mut sound = true;
+        let answer = self.call(lent, |edited, tables| {
             let answer = take(&edited.arm, link, part, tables);
             // The arm that is split stays as it is.
             match answer.refusal {
                 0 => *edited = answer,
-                number => edited.refusal = number,
+                number => {
+                    edited.refusal = number;
+                    sound = answer.arm.bits().eq(empty_arm().bits());
+                }
             }
             answer.refusal
-        })
+        });
+        held(sound, "refused, and the part is not empty")?;
+        answer
     }
 
     fn spring(&self, link: u32, axis: u32) -> Answer<[f32; 2]> {

@@ -91,6 +91,10 @@ fn edited(arm: &Arm, tables: usize, call: impl FnOnce(&mut Edited) -> u8) -> Cam
     Came::edited(place.edited, tables)
 }
 
+pub fn empty_arm() -> Box<Arm> {
+    Box::new(ffi::empty(&mut [0.0; TABLES]).arm)
+}
+
 impl World {
     /// An empty arm, tables as long as needed, and some room beside.
     pub fn new() -> World {
@@ -142,8 +146,13 @@ impl World {
         ] {
             assert!(read.same_past(before, 0), "what is read: {call:?}");
         }
-        if let (Some(arm), false, false) = (&came.arm, done, matches!(call, Call::Empty)) {
-            assert_eq!(bits(arm), bits(&before.arm), "{call:?}");
+        if let (Some(arm), false) = (&came.arm, done) {
+            let left = match call {
+                // No arm came that would be the answer's own.
+                Call::Empty | Call::PartDelete(..) | Call::PartCut(..) => &empty_arm(),
+                _ => &before.arm,
+            };
+            assert_eq!(bits(arm), bits(left), "{call:?}");
         }
         assert!(
             done || call.refusals().contains(&came.refusal),

@@ -80,7 +80,7 @@ fn put(arm: &mut Arm, made: Result<Arm, Refusal>) -> Result<(), Refusal> {
     Ok(())
 }
 
-const EDITS: [(Call, Method); 20] = [
+const EDITS: [(Call, Method); 19] = [
     (Call::AddLink(LINK), |arm| {
         let number = arm.add_link(LINK.into())?;
         assert_eq!(number + 1, arm.link_count());
@@ -121,7 +121,6 @@ const EDITS: [(Call, Method); 20] = [
     (Call::MoveCoordinate(4, 3, f32::NAN), |arm| {
         arm.move_coordinate(4, 3, f32::NAN)
     }),
-    (Call::PartDelete(1, 3), |arm| put(arm, arm.part(Split::delete(1), 3))),
 ];
 
 #[test]
@@ -154,12 +153,19 @@ fn every_part_is_the_call_s() {
         ),
         (Split::cut(1), ffi::part_cut),
     ] {
-        for (number, made) in (0..).zip(arm.parts(split).unwrap()) {
+        let parts = arm.parts(split).unwrap();
+        for (number, made) in (0..).zip(&parts) {
             let mut tables = arm.tables().to_vec();
             let edited = part(arm.state(), 1, number, &mut tables);
             assert_eq!((edited.refusal, bits(&edited.arm)), (0, bits(made.state())));
             assert!(same(&tables, made.tables()));
         }
+        // Past the last there is none, and where the method has no arm the call has an empty one.
+        let mut tables = arm.tables().to_vec();
+        let edited = part(arm.state(), 1, parts.len() as u32, &mut tables);
+        assert_eq!(arm.part(split, parts.len()).err(), Refusal::from_number(edited.refusal));
+        assert_eq!((edited.refusal, bits(&edited.arm)), (4, bits(Arm::new().state())));
+        assert!(same(&tables, arm.tables()));
     }
 }
 

@@ -1,8 +1,8 @@
 //! Every refusal of every call that can give it: for an arm that is broken, for memory that is too short, and for the arguments themselves.
 
-use crate::calls::{Call, World};
+use crate::calls::{Call, World, empty_arm};
 use crate::given::{FORCE, LIMITS, SPRING};
-use crate::memory::{Memory, ORIGIN};
+use crate::memory::{Memory, ORIGIN, bits};
 use giellavor::abi::{Arm, Force, Limits, NewCoupling, NewLink, Pose, Spring};
 use giellavor::{COUPLINGS, LINKS, TABLES};
 use std::collections::BTreeSet;
@@ -485,6 +485,51 @@ fn every_refusal_of_every_call_is_met() {
             );
         }
     }
+}
+
+// ---- A refused part
+
+/// Arms and tables that refuse a part of them, each with its number, the link that is taken out and the part that is asked for.
+fn refused_parts() -> Vec<(u8, World, [u32; 2])> {
+    let broken = BROKEN.map(|(number, damage)| {
+        let mut world = world();
+        damage(&mut world.arm);
+        (number, world, [1, 1])
+    });
+    let mut short = world();
+    short.tables = Memory::new([1.0; TABLES - 1]);
+    let mut far = world();
+    (1..3).for_each(|link| far.arm.links[link].joint.frame1 = Pose::at(HUGE, 0.0));
+    let others = [
+        (1, short, [1, 1]),
+        (4, world(), [4, 0]),
+        (4, world(), [1, 2]),
+        (12, far, [3, 0]),
+    ];
+    broken.into_iter().chain(others).collect()
+}
+
+/// By whichever number, it is the empty arm, and the lent tables are as they were, a NaN of any bits too.
+#[test]
+fn a_refused_part_is_the_empty_arm() {
+    let mut met = BTreeSet::new();
+    for (number, mut world, [link, part]) in refused_parts() {
+        world.tables.lent()[7] = f32::from_bits(0xFFA5_A5A5);
+        for call in [Call::PartDelete(link, part), Call::PartCut(link, part)] {
+            let mut after = world.clone();
+            let came = call.make(&mut after);
+            assert_eq!(came.refusal, number, "{call:?}");
+            assert_eq!(
+                came.arm.map(|arm| bits(&arm)),
+                Some(bits(&empty_arm())),
+                "{number} of {call:?}"
+            );
+            assert!(after.tables.same_past(&world.tables, 0), "{number} of {call:?}");
+        }
+        met.insert(number);
+    }
+    assert!(met.iter().eq(Call::PartDelete(0, 0).refusals()));
+    assert_eq!([empty_arm().link_count, empty_arm().coupling_count], [0, 0]);
 }
 
 /// Rules 1 to 12, of which several are broken at once: the lowest is given.
