@@ -4,7 +4,7 @@ use crate::calls::{Call, World, empty_arm};
 use crate::given::{FORCE, LIMITS, SPRING};
 use crate::memory::{Memory, ORIGIN, bits};
 use giellavor::abi::{Arm, Force, Limits, NewCoupling, NewLink, Pose, Spring};
-use giellavor::{COUPLINGS, LINKS, TABLES};
+use giellavor::{BLOCK, COUPLINGS, DOFS, LINKS, TABLES};
 use std::collections::BTreeSet;
 
 const HUGE: f32 = 3e38;
@@ -378,7 +378,7 @@ fn floats(met: &mut Met) {
         }
         // Of the tables only the parent's block is read, or the asked link's.
         let mut block = world.clone();
-        block.tables.lent()[giellavor::BLOCK] = x;
+        block.tables.lent()[BLOCK] = x;
         for (call, number) in [
             (Call::MoveCentre(2, ORIGIN), 7),
             (Call::MoveCentre(1, ORIGIN), 0),
@@ -530,6 +530,70 @@ fn a_refused_part_is_the_empty_arm() {
     }
     assert!(met.iter().eq(Call::PartDelete(0, 0).refusals()));
     assert_eq!([empty_arm().link_count, empty_arm().coupling_count], [0, 0]);
+}
+
+// ---- Which NaN: no proof speaks of a NaN's bits
+
+/// Of both signs, quiet and signalling.
+const NANS: [u32; 4] = [0x7F80_0001, 0x7FC0_0000, 0xFFA5_A5A5, 0xFFFF_FFFF];
+
+#[test]
+fn a_refusal_leaves_every_nan_its_bits() {
+    for nan in NANS.map(f32::from_bits) {
+        let mut world = world();
+        world.arm.links[1].world.x = nan;
+        let World {
+            tables,
+            mass,
+            j,
+            wj,
+            velocities,
+            accelerations,
+            ..
+        } = &mut world;
+        for memory in [tables, mass, j, wj, velocities, accelerations] {
+            memory.lent().fill(nan);
+        }
+        for call in good().into_iter().filter(|call| !matches!(call, Call::Empty)) {
+            assert_eq!(answer(&world, call), 7, "{call:?}");
+        }
+    }
+}
+
+/// A call that is done leaves them where it has no need to write: past the counts, in blocks of links that it doesn't reach, and past the tables.
+#[test]
+fn a_call_that_is_done_leaves_nans_their_bits_too() {
+    for nan in NANS.map(f32::from_bits) {
+        let mut world = world();
+        world.arm.links[LINKS - 1].centre.x = nan;
+        world.arm.couplings[COUPLINGS - 1].offset = nan;
+        world.arm.rows[0].entries[DOFS - 1] = nan;
+        let lent = world.tables.lent().to_vec();
+        world.tables = Memory::new(lent.into_iter().chain([nan]));
+        for call in good() {
+            assert_eq!(answer(&world, call), 0, "{call:?}");
+        }
+        // Link 3 is below neither.
+        world.tables.lent()[3 * BLOCK] = nan;
+        for call in [
+            Call::WriteVelocity(2, 1, 1.0),
+            Call::SetSpring(3, 0, SPRING),
+            Call::AddCoupling(COUPLING),
+            Call::MoveCoordinate(2, 0, 1.0),
+            Call::MoveFrames(1, Pose::IDENTITY, Pose::IDENTITY),
+            Call::AddLink(NewLink::fixed(14, 2)),
+        ] {
+            let mut after = world.clone();
+            let arm = call.make(&mut after).arm.expect("an arm");
+            let left = [
+                arm.links[LINKS - 1].centre.x,
+                arm.couplings[COUPLINGS - 1].offset,
+                arm.rows[0].entries[DOFS - 1],
+                after.tables.lent()[3 * BLOCK],
+            ];
+            assert_eq!(left.map(f32::to_bits), [nan.to_bits(); 4], "{call:?}");
+        }
+    }
 }
 
 /// Rules 1 to 12, of which several are broken at once: the lowest is given.
