@@ -27,5 +27,5 @@ def used(path):
 def definitions(path):
     """The definitions of a file of specs/, in order: name -> its text, without comments."""
     text = re.sub(r"--.*|^module .*", "", read(path), flags=re.M)
-    parts = re.split(r"^ *(?:(?:unfoldable|abbrev) pub|pub (?:record|data)) (\S+)", text, flags=re.M)
+    parts = re.split(r"^ *(?:(?:unfoldable|abbrev)(?: pub)?|(?:pub )?(?:record|data)) ([^\s{]+)", text, flags=re.M)
     return dict(zip(parts[1::2], parts[2::2]))
