@@ -5,34 +5,27 @@ use mathlib.Core.Bool.{Bool, true, false, cond}
 use mathlib.Core.List.{List, [], _∷_, map}
 use native.Mathlib.Omega.{arith}
 use lib.ListN.{length, drop, getD, set, length-drop}
-use borrow.Author.Tests.{lt-leb}
 use lib.Seq.{length-take-le}
 use lib.Ieee.{Float}
 use Rattle.part_arm.specs.Inner.{linksOut, couplingsOut}
+use Rattle.arm.specs.Setters.{armWith}
 use Rattle.arm.specs.Empty.{blankRow, emptyArm}
 use Rattle.lists.proofs.Gathered.{Laid, chosen-le, laid-as, laid-skip, laid-one, laid-part}
 use Rattle.lists.specs.Lists.{part, withPart}
-use Rattle.limits.specs.Limits.{linkLimit, couplingLimit, dofLimit, tableSize}
+use Rattle.limits.specs.Limits.{linkLimit, couplingLimit, dofLimit}
 use Rattle.masks.specs.Masks.{dofsOf}
 use Rattle.arm.specs.declared.Link.{Link}
 use Rattle.arm.specs.declared.Coupling.{Coupling}
 use Rattle.arm.specs.declared.Row.{Row}
 use Rattle.arm.specs.declared.Arm.{Arm}
-use Rattle.arm.specs.declared.Edited.{Edited}
 use Rattle.arm.specs.Arm.{liveLinks, maskAt, startAt, linkAt, couplingAt}
 use Rattle.arm.proofs.Live.{dof-count-le, mask-there, start-more, start-within}
-use Rattle.full_working.specs.Outcome.{Outcome, out}
-use Rattle.full_working.specs.Empty.{emptied}
 use Rattle.part_arm.specs.declared.LinksOut.{LinksOut}
 use Rattle.part_arm.specs.declared.CouplingsOut.{CouplingsOut}
 use Rattle.part_arm.specs.Places.{Places, goesOn}
 use Rattle.part_arm.specs.Part.{newLink, partLinks, ownEntries, partEntries, partRow, couplingStays, newCoupling, partCouplings, partArm}
 
 -- ---- blank places
-
-pub blank : (e : Edited) (t m : List Float) → length t < tableSize → out e m ≡ emptied t → e .arm ≡ emptyArm
-unfolding emptied
-blank e t m h q = ap (λ (o : Outcome). o .answer .arm) q ∙ rw (lt-leb tableSize (length t) h)
 
 pub blank-links : length (emptyArm .links) ≡ linkLimit
 unfolding emptyArm
@@ -135,6 +128,6 @@ module _ (p : Places) (a : Arm) where
   -- ---- all of it
 
   pub assembled : (l : LinksOut) (c : CouplingsOut) (rows : List Row) → l ≡ linksOut p a → c ≡ couplingsOut p a → rows ≡ map (partRow p a) (a .rows)
-      → _≡_ {A = Arm} (record { «link_count» = l .count; «coupling_count» = c .count; links = l .links; couplings = c .couplings; rows = rows }) (partArm p a)
+      → armWith a (l .count) (c .count) (l .links) (c .couplings) rows ≡ partArm p a
   unfolding partArm linksOut couplingsOut
   assembled l c rows x y z = rw (x, y, z)

@@ -14,7 +14,8 @@ use Rattle.arm.specs.declared.Link.{Link}
 use Rattle.arm.specs.declared.Coupling.{Coupling}
 use Rattle.arm.specs.declared.Row.{Row}
 use Rattle.arm.specs.declared.Arm.{Arm}
-use Rattle.arm.specs.Arm.{liveLinks, maskAt, startAt, linkAt}
+use Rattle.arm.specs.Setters.{withInputs, armWith}
+use Rattle.arm.specs.Arm.{liveLinks, maskAt, startAt, linkAt, couplingAt}
 use Rattle.part_arm.specs.Places.{Places, goesOn}
 
 -- ---- links

@@ -2,7 +2,7 @@
 use mathlib.Core.Logic.{⊎-elim}
 use native.Mathlib.Omega.{arith}
 use mathlib.Core.Path.{_≡_, refl, sym, ap, _∙_}
-use Prim.Native.Nat.{min, _-_, _≤_}
+use Prim.Native.Nat.{min, _-_, _≤_, _<_}
 use borrow.Author.Needs.{needs}
 use Rattle.part_arm.specs.Inner.{placesIn}
 use Rattle.arm.specs.Empty.{emptyArm}
@@ -19,14 +19,20 @@ Inv-loop places k arm n couplings₀ count₀ i₀ couplings count i = (n ≡ mi
 abbrev μ-loop : tie.MeasureT-loop
 μ-loop places k arm n couplings₀ count₀ i₀ couplings count i = n - i
 
-live-couplings-requires : tie.Need-live-couplings-requires Inv-loop μ-loop
-live-couplings-requires c κs = search needs
+fewer-requires : tie.Need-fewer-requires Inv-loop μ-loop
+fewer-requires c κs = search needs
 
-blank-arm-requires : tie.Need-blank-arm-requires Inv-loop μ-loop
-blank-arm-requires c κs = search needs
+empty-arm-requires : tie.Need-empty-arm-requires Inv-loop μ-loop
+empty-arm-requires c κs = search needs
 
 loop-holds : tie.Need-loop-holds Inv-loop μ-loop
-loop-holds c = (c .before .before .live-couplings .ensures, omega arith, laid-as (couplingTurn (placesIn (c .before .before .before .args .places) (c .before .before .before .args .k)) (c .before .before .before .args .t1)) (emptyArm .couplings) 0 (emptyArm .couplings) 0 (laid-none (couplingTurn (placesIn (c .before .before .before .args .places) (c .before .before .before .args .k)) (c .before .before .before .args .t1)) (emptyArm .couplings)) _ 0 (ap (λ (a : Arm). a .couplings) (c .before .blank-arm .ensures)) refl)
+loop-holds c =
+    let begun : tie.Start Inv-loop μ-loop = search in
+    let counted : tie.After-fewer Inv-loop μ-loop = search in
+    let blank : tie.After-empty-arm Inv-loop μ-loop = search in
+    let turns = couplingTurn (placesIn (begun .args .places) (begun .args .k)) (begun .args .t1) in
+    let first = laid-none turns (emptyArm .couplings) in
+    (counted .fewer .ensures, omega arith, laid-as turns (emptyArm .couplings) 0 (emptyArm .couplings) 0 first _ 0 (ap (λ (a : Arm). a .couplings) (blank .empty-arm .ensures)) refl)
 
 mul-c : tie.Need-mul-c Inv-loop μ-loop
 mul-c c = search needs
@@ -40,14 +46,21 @@ coupling-stays-requires c κs = search needs
 new-coupling-requires : tie.Need-new-coupling-requires Inv-loop μ-loop
 new-coupling-requires c κs = search needs
 
+-- there is room for one more
+room : (c : tie.In-loop Inv-loop μ-loop) → c .before .loop .count < couplingLimit
+room c =
+    let begun : tie.Start Inv-loop μ-loop = search in
+    let k = c .before .loop in
+    coupling-room (placesIn (begun .args .places) (begun .args .k)) (begun .args .t1) (k .i) (k .couplings) (k .count) (k .inv .2) (omega arith)
+
 mul-couplings : tie.Need-mul-couplings Inv-loop μ-loop
-mul-couplings c = omega (arith, coupling-room (placesIn (c .before .before .before .before .before .before .before .before .before .args .places) (c .before .before .before .before .before .before .before .before .before .args .k)) (c .before .before .before .before .before .before .before .before .before .args .t1) (c .before .before .before .before .before .loop .i) (c .before .before .before .before .before .loop .couplings) (c .before .before .before .before .before .loop .count) (c .before .before .before .before .before .loop .inv .2) (omega arith))
+mul-couplings c = let turn : tie.In-loop Inv-loop μ-loop = search in omega (arith, room turn)
 
 array-set-from-couplings : tie.Need-array-set-from-couplings Inv-loop μ-loop
-array-set-from-couplings c = omega (arith, coupling-room (placesIn (c .before .before .before .before .before .before .before .before .before .args .places) (c .before .before .before .before .before .before .before .before .before .args .k)) (c .before .before .before .before .before .before .before .before .before .args .t1) (c .before .before .before .before .before .loop .i) (c .before .before .before .before .before .loop .couplings) (c .before .before .before .before .before .loop .count) (c .before .before .before .before .before .loop .inv .2) (omega arith))
+array-set-from-couplings c = let turn : tie.In-loop Inv-loop μ-loop = search in omega (arith, room turn)
 
 add-count : tie.Need-add-count Inv-loop μ-loop
-add-count c = omega (arith, coupling-room (placesIn (c .before .before .before .before .before .before .before .before .before .args .places) (c .before .before .before .before .before .before .before .before .before .args .k)) (c .before .before .before .before .before .before .before .before .before .args .t1) (c .before .before .before .before .before .loop .i) (c .before .before .before .before .before .loop .couplings) (c .before .before .before .before .before .loop .count) (c .before .before .before .before .before .loop .inv .2) (omega arith))
+add-count c = let turn : tie.In-loop Inv-loop μ-loop = search in omega (arith, room turn)
 
 add-i : tie.Need-add-i Inv-loop μ-loop
 add-i c = search needs
@@ -57,13 +70,21 @@ loop-less c = search needs
 
 loop-again : tie.Need-loop-again Inv-loop μ-loop
 loop-again c =
+    let begun : tie.Start Inv-loop μ-loop = search in
+    let k = c .before .before .before .before .loop in
+    let p = placesIn (begun .args .places) (begun .args .k) in
+    let a = begun .args .t1 in
+    let stays = c .before .coupling-stays .ensures in
     ⊎-elim
-    (λ w. (c .before .before .before .before .loop .inv .0, omega arith, coupling-stays (placesIn (c .before .before .before .before .before .before .before .before .args .places) (c .before .before .before .before .before .before .before .before .args .k)) (c .before .before .before .before .before .before .before .before .args .t1) (c .before .before .before .before .loop .i) (c .before .before .before .before .loop .couplings) (c .before .before .before .before .loop .count) (c .before .before .before .before .loop .inv .2) (omega arith) (w .1 .result) (sym (c .before .coupling-stays .ensures) ∙ w .0 .taken) (w .1 .ensures) _ _ (w .2) (w .3)))
-    (λ w. (c .before .before .before .before .loop .inv .0, omega arith, coupling-lost (placesIn (c .before .before .before .before .before .before .before .before .args .places) (c .before .before .before .before .before .before .before .before .args .k)) (c .before .before .before .before .before .before .before .before .args .t1) (c .before .before .before .before .loop .i) (c .before .before .before .before .loop .couplings) (c .before .before .before .before .loop .count) (c .before .before .before .before .loop .inv .2) (sym (c .before .coupling-stays .ensures) ∙ w .0 .left) _ _ (w .1) (w .2)))
+    (λ w. (k .inv .0, omega arith, coupling-stays p a (k .i) (k .couplings) (k .count) (k .inv .2) (omega arith) (w .1 .result) (sym stays ∙ w .0 .taken) (w .1 .ensures) _ _ (w .2) (w .3)))
+    (λ w. (k .inv .0, omega arith, coupling-lost p a (k .i) (k .couplings) (k .count) (k .inv .2) (sym stays ∙ w .0 .left) _ _ (w .1) (w .2)))
     (c .if1 .came)
 
 returns : tie.Need-returns Inv-loop μ-loop
-returns c = couplings-done (placesIn (c .before .before .before .before .before .args .places) (c .before .before .before .before .before .args .k)) (c .before .before .before .before .before .args .t1) (c .before .loop .i) (c .before .loop .couplings) (c .before .loop .count) (c .before .loop .inv .2) (omega arith)
+returns c =
+    let begun : tie.Start Inv-loop μ-loop = search in
+    let k = c .before .loop in
+    couplings-done (placesIn (begun .args .places) (begun .args .k)) (begun .args .t1) (k .i) (k .couplings) (k .count) (k .inv .2) (omega arith)
 
 pub couplings-out-spec : {M : Type 1} → statement M
 couplings-out-spec =
@@ -71,8 +92,8 @@ couplings-out-spec =
     (tie.spec
     Inv-loop
     μ-loop
-    live-couplings-requires
-    blank-arm-requires
+    fewer-requires
+    empty-arm-requires
     loop-holds
     mul-c
     element-copy-out-c

@@ -2,7 +2,8 @@
 use mathlib.Core.Logic.{⊎-elim}
 use native.Mathlib.Omega.{arith}
 use mathlib.Core.Path.{_≡_, refl, sym, ap, _∙_}
-use Prim.Native.Nat.{_-_, _≤_}
+use Prim.Native.Nat.{_-_, _≤_, _<_}
+use Rattle.limits.specs.Limits.{linkLimit}
 use borrow.Author.Needs.{needs}
 use Rattle.part_arm.specs.Inner.{placesIn}
 use Rattle.arm.specs.Empty.{emptyArm}
@@ -22,11 +23,17 @@ abbrev μ-loop : tie.MeasureT-loop
 live-links-requires : tie.Need-live-links-requires Inv-loop μ-loop
 live-links-requires c κs = search needs
 
-blank-arm-requires : tie.Need-blank-arm-requires Inv-loop μ-loop
-blank-arm-requires c κs = search needs
+empty-arm-requires : tie.Need-empty-arm-requires Inv-loop μ-loop
+empty-arm-requires c κs = search needs
 
 loop-holds : tie.Need-loop-holds Inv-loop μ-loop
-loop-holds c = (c .before .before .live-links .ensures, omega arith, laid-as (linkTurn (placesIn (c .before .before .before .args .places) (c .before .before .before .args .k)) (c .before .before .before .args .t1)) (emptyArm .links) 0 (emptyArm .links) 0 (laid-none (linkTurn (placesIn (c .before .before .before .args .places) (c .before .before .before .args .k)) (c .before .before .before .args .t1)) (emptyArm .links)) _ 0 (ap (λ (a : Arm). a .links) (c .before .blank-arm .ensures)) refl)
+loop-holds c =
+    let begun : tie.Start Inv-loop μ-loop = search in
+    let counted : tie.After-live-links Inv-loop μ-loop = search in
+    let blank : tie.After-empty-arm Inv-loop μ-loop = search in
+    let turns = linkTurn (placesIn (begun .args .places) (begun .args .k)) (begun .args .t1) in
+    let first = laid-none turns (emptyArm .links) in
+    (counted .live-links .ensures, omega arith, laid-as turns (emptyArm .links) 0 (emptyArm .links) 0 first _ 0 (ap (λ (a : Arm). a .links) (blank .empty-arm .ensures)) refl)
 
 is-here-requires : tie.Need-is-here-requires Inv-loop μ-loop
 is-here-requires c κs = search needs
@@ -49,14 +56,21 @@ number-in-requires c κs = search needs
 new-link-requires : tie.Need-new-link-requires Inv-loop μ-loop
 new-link-requires c κs = search needs
 
+-- there is room for one more
+room : (c : tie.In-loop Inv-loop μ-loop) → c .before .loop .count < linkLimit
+room c =
+    let begun : tie.Start Inv-loop μ-loop = search in
+    let k = c .before .loop in
+    link-room (placesIn (begun .args .places) (begun .args .k)) (begun .args .t1) (k .j) (k .links) (k .count) (k .inv .2) (omega arith)
+
 mul-links : tie.Need-mul-links Inv-loop μ-loop
-mul-links c = omega (arith, link-room (placesIn (c .before .before .before .before .before .before .before .before .before .before .before .before .args .places) (c .before .before .before .before .before .before .before .before .before .before .before .before .args .k)) (c .before .before .before .before .before .before .before .before .before .before .before .before .args .t1) (c .before .before .before .before .before .before .before .before .loop .j) (c .before .before .before .before .before .before .before .before .loop .links) (c .before .before .before .before .before .before .before .before .loop .count) (c .before .before .before .before .before .before .before .before .loop .inv .2) (omega arith))
+mul-links c = let turn : tie.In-loop Inv-loop μ-loop = search in omega (arith, room turn)
 
 array-set-from-links : tie.Need-array-set-from-links Inv-loop μ-loop
-array-set-from-links c = omega (arith, link-room (placesIn (c .before .before .before .before .before .before .before .before .before .before .before .before .args .places) (c .before .before .before .before .before .before .before .before .before .before .before .before .args .k)) (c .before .before .before .before .before .before .before .before .before .before .before .before .args .t1) (c .before .before .before .before .before .before .before .before .loop .j) (c .before .before .before .before .before .before .before .before .loop .links) (c .before .before .before .before .before .before .before .before .loop .count) (c .before .before .before .before .before .before .before .before .loop .inv .2) (omega arith))
+array-set-from-links c = let turn : tie.In-loop Inv-loop μ-loop = search in omega (arith, room turn)
 
 add-count : tie.Need-add-count Inv-loop μ-loop
-add-count c = omega (arith, link-room (placesIn (c .before .before .before .before .before .before .before .before .before .before .before .before .args .places) (c .before .before .before .before .before .before .before .before .before .before .before .before .args .k)) (c .before .before .before .before .before .before .before .before .before .before .before .before .args .t1) (c .before .before .before .before .before .before .before .before .loop .j) (c .before .before .before .before .before .before .before .before .loop .links) (c .before .before .before .before .before .before .before .before .loop .count) (c .before .before .before .before .before .before .before .before .loop .inv .2) (omega arith))
+add-count c = let turn : tie.In-loop Inv-loop μ-loop = search in omega (arith, room turn)
 
 add-j : tie.Need-add-j Inv-loop μ-loop
 add-j c = search needs
@@ -66,13 +80,21 @@ loop-less c = search needs
 
 loop-again : tie.Need-loop-again Inv-loop μ-loop
 loop-again c =
+    let begun : tie.Start Inv-loop μ-loop = search in
+    let k = c .before .before .before .loop in
+    let p = placesIn (begun .args .places) (begun .args .k) in
+    let a = begun .args .t1 in
+    let here = c .before .is-here .ensures in
     ⊎-elim
-    (λ w. (c .before .before .before .loop .inv .0, omega arith, link-here (placesIn (c .before .before .before .before .before .before .before .args .places) (c .before .before .before .before .before .before .before .args .k)) (c .before .before .before .before .before .before .before .args .t1) (c .before .before .before .loop .j) (c .before .before .before .loop .links) (c .before .before .before .loop .count) (c .before .before .before .loop .inv .2) (omega arith) (w .5 .result) (sym (c .before .is-here .ensures) ∙ w .0 .taken) (cc (w .5 .ensures, w .2 .ensures, w .4 .ensures)) _ _ (w .6) (w .7)))
-    (λ w. (c .before .before .before .loop .inv .0, omega arith, link-elsewhere (placesIn (c .before .before .before .before .before .before .before .args .places) (c .before .before .before .before .before .before .before .args .k)) (c .before .before .before .before .before .before .before .args .t1) (c .before .before .before .loop .j) (c .before .before .before .loop .links) (c .before .before .before .loop .count) (c .before .before .before .loop .inv .2) (sym (c .before .is-here .ensures) ∙ w .0 .left) _ _ (w .1) (w .2)))
+    (λ w. (k .inv .0, omega arith, link-here p a (k .j) (k .links) (k .count) (k .inv .2) (omega arith) (w .5 .result) (sym here ∙ w .0 .taken) (cc (w .5 .ensures, w .2 .ensures, w .4 .ensures)) _ _ (w .6) (w .7)))
+    (λ w. (k .inv .0, omega arith, link-elsewhere p a (k .j) (k .links) (k .count) (k .inv .2) (sym here ∙ w .0 .left) _ _ (w .1) (w .2)))
     (c .if1 .came)
 
 returns : tie.Need-returns Inv-loop μ-loop
-returns c = links-done (placesIn (c .before .before .before .before .before .args .places) (c .before .before .before .before .before .args .k)) (c .before .before .before .before .before .args .t1) (c .before .loop .j) (c .before .loop .links) (c .before .loop .count) (c .before .loop .inv .2) (omega arith)
+returns c =
+    let begun : tie.Start Inv-loop μ-loop = search in
+    let k = c .before .loop in
+    links-done (placesIn (begun .args .places) (begun .args .k)) (begun .args .t1) (k .j) (k .links) (k .count) (k .inv .2) (omega arith)
 
 pub links-out-spec : {M : Type 1} → statement M
 links-out-spec =
@@ -81,7 +103,7 @@ links-out-spec =
     Inv-loop
     μ-loop
     live-links-requires
-    blank-arm-requires
+    empty-arm-requires
     loop-holds
     is-here-requires
     mul-l

@@ -1,4 +1,5 @@
 -- `part_arm`: links, couplings and rows put together. Assumes nothing.
+use mathlib.Core.Path.{_∙_}
 use borrow.Author.Needs.{needs}
 use Rattle.part_arm.specs.Inner.{placesIn}
 use Rattle.part_arm.proofs.Turns.{assembled}
@@ -14,9 +15,16 @@ couplings-out-requires c κs = search needs
 rows-out-requires : tie.Need-rows-out-requires
 rows-out-requires c κs = search needs
 
+arm-with-requires : tie.Need-arm-with-requires
+arm-with-requires c κs = search needs
+
 returns : tie.Need-returns
-returns c = assembled (placesIn (c .before .before .before .before .before .args .places) (c .before .before .before .before .before .args .k)) (c .before .before .before .before .before .args .arm) _ _ _ (c .before .before .before .before .links-out .ensures) (c .before .before .before .couplings-out .ensures) (c .rows-out .ensures)
+returns c =
+    let begun : tie.Start = search in
+    let links : tie.After-links-out = search in
+    let couplings : tie.After-couplings-out = search in
+    let p = placesIn (begun .args .places) (begun .args .k) in
+    c .arm-with .ensures ∙ assembled p (begun .args .arm) _ _ _ (links .links-out .ensures) (couplings .couplings-out .ensures) (c .before .rows-out .ensures)
 
 pub part-arm-spec : {M : Type 1} → statement M
-part-arm-spec =
-    tie.close (tie.spec links-out-requires couplings-out-requires rows-out-requires returns)
+part-arm-spec = tie.close (tie.spec links-out-requires couplings-out-requires rows-out-requires arm-with-requires returns)

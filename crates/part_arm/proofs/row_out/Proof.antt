@@ -4,7 +4,9 @@ use native.Mathlib.Omega.{arith}
 use mathlib.Core.List.{[]}
 use mathlib.Core.Bool.{cond}
 use mathlib.Core.Path.{_≡_, sym, _∙_}
-use Prim.Native.Nat.{_-_, _≤_}
+use Prim.Native.Nat.{_-_, _≤_, _+_}
+use Rattle.limits.specs.Limits.{dofLimit}
+use Rattle.floats.proofs.Parts.{copied-fits}
 use borrow.Author.Needs.{needs}
 use Rattle.part_arm.specs.Inner.{placesIn}
 use Rattle.arm.specs.Empty.{blankRow}
@@ -42,47 +44,35 @@ dofs-requires c κs = search needs
 goes-on-requires : tie.Need-goes-on-requires Inv-loop μ-loop
 goes-on-requires c κs = search needs
 
-slice-aggregate-keep-entries : tie.Need-slice-aggregate-keep-entries Inv-loop μ-loop
-slice-aggregate-keep-entries c =
-    let s = c .before .before .before .before .before .before .before .before .before in
-    let k = c .before .before .before .before .before .before .loop in
-    let p = placesIn (s .args .places) (s .args .k) in
-    let w = links-length (s .args .t1) (s .good .0) in
-    let e = row-length (s .args .row) (s .good .1 .1 .1 .0) in
-    let r = row-room p (s .args .t1) w (s .args .row .entries) e (k .j) (c .before .before .before .dofs .result) _ (omega arith) (c .before .before .before .dofs .ensures) (k .start) (k .inv .2) in
+-- the row as it was has its length, and the turn's link its entries in it
+room : (c : tie.After-dofs Inv-loop μ-loop) → let begun : tie.Start Inv-loop μ-loop = search in let turn : tie.At-loop Inv-loop μ-loop = search in turn .loop .start + c .dofs .result ≤ dofLimit
+room c =
+    let begun : tie.Start Inv-loop μ-loop = search in
+    let turn : tie.At-loop Inv-loop μ-loop = search in
+    let k = turn .loop in
+    let own = begun .args in
+    row-room (placesIn (own .places) (own .k)) (own .t1) (links-length (own .t1) (begun .good .0)) (own .row .entries) (row-length (own .row) (begun .good .1 .1 .1 .0))
+    (k .j) (c .dofs .result) _ (omega arith) (c .dofs .ensures) (k .start) (k .inv .2)
+
+slice-aggregate-copy-part : tie.Need-slice-aggregate-copy-part Inv-loop μ-loop
+slice-aggregate-copy-part c =
+    let turn : tie.At-loop Inv-loop μ-loop = search in
+    let counted : tie.After-dofs Inv-loop μ-loop = search in
+    let k = turn .loop in
+    let r = room counted in
     sym (laid-length _ (blankRow .entries) (k .j) (k .entries) (k .at) (k .inv .4) (omega arith))
 
-slice-aggregate-keep-entries-2 : tie.Need-slice-aggregate-keep-entries-2 Inv-loop μ-loop
-slice-aggregate-keep-entries-2 c = search needs
+slice-aggregate-copy-part-2 : tie.Need-slice-aggregate-copy-part-2 Inv-loop μ-loop
+slice-aggregate-copy-part-2 c = search needs
 
-keep-entries-requires : tie.Need-keep-entries-requires Inv-loop μ-loop
-keep-entries-requires c κs =
-    let s = c .before .before .before .before .before .before .before .before .before .before in
-    let k = c .before .before .before .before .before .before .before .loop in
-    let p = placesIn (s .args .places) (s .args .k) in
-    let w = links-length (s .args .t1) (s .good .0) in
-    let e = row-length (s .args .row) (s .good .1 .1 .1 .0) in
-    let r = row-room p (s .args .t1) w (s .args .row .entries) e (k .j) (c .before .before .before .before .dofs .result) _ (omega arith) (c .before .before .before .before .dofs .ensures) (k .start) (k .inv .2) in
-    let n = laid-length _ (blankRow .entries) (k .j) (k .entries) (k .at) (k .inv .4) (omega arith) in
-    (omega arith, omega arith)
+copy-part-requires : tie.Need-copy-part-requires Inv-loop μ-loop
+copy-part-requires c κs = search needs
 
 add-at : tie.Need-add-at Inv-loop μ-loop
-add-at c =
-    let s = c .before .before .before .before .before .before .before .before .before .before .before .before in
-    let k = c .before .before .before .before .before .before .before .before .before .loop in
-    let p = placesIn (s .args .places) (s .args .k) in
-    let w = links-length (s .args .t1) (s .good .0) in
-    let e = row-length (s .args .row) (s .good .1 .1 .1 .0) in
-    omega (arith, row-room p (s .args .t1) w (s .args .row .entries) e (k .j) (c .before .before .before .before .before .before .dofs .result) _ (omega arith) (c .before .before .before .before .before .before .dofs .ensures) (k .start) (k .inv .2))
+add-at c = let counted : tie.After-dofs Inv-loop μ-loop = search in omega (arith, room counted)
 
 add-start : tie.Need-add-start Inv-loop μ-loop
-add-start c =
-    let s = c .before .before .before .before .before .before .before .before in
-    let k = c .before .before .before .before .before .loop in
-    let p = placesIn (s .args .places) (s .args .k) in
-    let w = links-length (s .args .t1) (s .good .0) in
-    let e = row-length (s .args .row) (s .good .1 .1 .1 .0) in
-    omega (arith, row-room p (s .args .t1) w (s .args .row .entries) e (k .j) (c .before .before .dofs .result) _ (omega arith) (c .before .before .dofs .ensures) (k .start) (k .inv .2))
+add-start c = let counted : tie.After-dofs Inv-loop μ-loop = search in omega (arith, room counted)
 
 add-j : tie.Need-add-j Inv-loop μ-loop
 add-j c = search needs
@@ -92,19 +82,33 @@ loop-less c = search needs
 
 loop-again : tie.Need-loop-again Inv-loop μ-loop
 loop-again c =
-    let s = c .before .before .before .before .before .before .before .before in
-    let k = c .before .before .before .before .before .loop in
-    let p = placesIn (s .args .places) (s .args .k) in
-    let w = links-length (s .args .t1) (s .good .0) in
-    let e = row-length (s .args .row) (s .good .1 .1 .1 .0) in
-    let next = row-next p (s .args .t1) w (s .args .row .entries) e (k .j) (c .before .before .dofs .result) _ (omega arith) (c .before .before .dofs .ensures) (k .start) (k .inv .2) in
+    let begun : tie.Start Inv-loop μ-loop = search in
+    let turn : tie.At-loop Inv-loop μ-loop = search in
+    let counted : tie.After-dofs Inv-loop μ-loop = search in
+    let k = turn .loop in
+    let d = counted .dofs in
+    let a = begun .args .t1 in
+    let old = begun .args .row .entries in
+    let p = placesIn (begun .args .places) (begun .args .k) in
+    let w = links-length a (begun .good .0) in
+    let e = row-length (begun .args .row) (begun .good .1 .1 .1 .0) in
+    let l = laid-length _ (blankRow .entries) (k .j) (k .entries) (k .at) (k .inv .4) (omega (arith, room counted)) in
+    let next = row-next p a w old e (k .j) (d .result) _ (omega arith) (d .ensures) (k .start) (k .inv .2) in
+    let copied = copied-fits (k .at) (k .start) (d .result) (k .entries) old (omega (arith, room counted, l)) (omega (arith, room counted, e)) in
+    let goes = c .before .goes-on .ensures in
     ⊎-elim
-    (λ o. (k .inv .0, omega arith, next, omega arith, entries-kept p (s .args .t1) w (s .args .row .entries) e (k .j) (c .before .before .dofs .result) _ (omega arith) (c .before .before .dofs .ensures) (k .start) (k .inv .2) (k .entries) (k .at) (k .inv .4) (sym (c .before .goes-on .ensures) ∙ o .0 .taken) _ _ (o .5 ∙ o .3 .ensures) (o .6)))
-    (λ o. (k .inv .0, omega arith, next, omega arith, entries-lost p (s .args .t1) w (s .args .row .entries) e (k .j) (c .before .before .dofs .result) _ (omega arith) (c .before .before .dofs .ensures) (k .start) (k .inv .2) (k .entries) (k .at) (k .inv .4) (sym (c .before .goes-on .ensures) ∙ o .0 .left) _ _ (o .1) (o .2)))
+    (λ o. (k .inv .0, omega arith, next, omega arith,
+    entries-kept p a w old e (k .j) (d .result) _ (omega arith) (d .ensures) (k .start) (k .inv .2) (k .entries) (k .at) (k .inv .4) (sym goes ∙ o .0 .taken) _ _ (o .5 ∙ o .3 .ensures ∙ copied) (o .6)))
+    (λ o. (k .inv .0, omega arith, next, omega arith,
+    entries-lost p a w old e (k .j) (d .result) _ (omega arith) (d .ensures) (k .start) (k .inv .2) (k .entries) (k .at) (k .inv .4) (sym goes ∙ o .0 .left) _ _ (o .1) (o .2)))
     (c .if1 .came)
 
 returns : tie.Need-returns Inv-loop μ-loop
-returns c = row-done (placesIn (c .before .before .before .before .args .places) (c .before .before .before .before .args .k)) (c .before .before .before .before .args .t1) (c .before .before .before .before .args .row) (c .before .loop .j) (c .before .loop .entries) (c .before .loop .at) (c .before .loop .inv .4) (omega arith)
+returns c =
+    let begun : tie.Start Inv-loop μ-loop = search in
+    let own = begun .args in
+    let k = c .before .loop in
+    row-done (placesIn (own .places) (own .k)) (own .t1) (own .row) (k .j) (k .entries) (k .at) (k .inv .4) (omega arith)
 
 pub row-out-spec : {M : Type 1} → statement M
 row-out-spec =
@@ -118,9 +122,9 @@ row-out-spec =
     element-copy-out-l
     dofs-requires
     goes-on-requires
-    slice-aggregate-keep-entries
-    slice-aggregate-keep-entries-2
-    keep-entries-requires
+    slice-aggregate-copy-part
+    slice-aggregate-copy-part-2
+    copy-part-requires
     add-at
     add-start
     add-j
