@@ -21,6 +21,7 @@ use Rattle.topology.specs.declared.Split.{Split}
 use Rattle.topology.specs.Split.{isHead, partCount, isIn, splitMap}
 use Rattle.topology.proofs.Theorems.{with-parent, in-part}
 use Rattle.arm.specs.declared.Arm.{Arm}
+use Rattle.arm.specs.Empty.{emptyArm}
 use Rattle.arm.specs.Arm.{liveLinks, linksOf, couplingsOf, parentsOf, linkAt, noLink, noCoupling, couplingAt, parentOf}
 use Rattle.arm.specs.HandedIn.{couplingLinksFit, parentsEarlier, couplingsLinksFit, armRefusal}
 use Rattle.arm.proofs.Live.{parents-live}
@@ -44,9 +45,8 @@ module _ (a : Arm) (whole : length (a .links) ≡ linkLimit) (all : length (a .c
   pub coupling-links : armRefusal a ≡ 0 → (i : ℕ) → i < min (a .«coupling_count») couplingLimit → (couplingAt a i .link1 < a .«link_count») × (couplingAt a i .link2 < a .«link_count»)
   unfolding couplingsOf couplingLinksFit
   coupling-links e i h =
-      let fits = both-hold (parentsEarlier a) (couplingsLinksFit a) (accepted a e .numbers) .1 in
       let n = min (a .«coupling_count») couplingLimit in
-      let one = every-at (couplingLinksFit (a .«link_count»)) (take n (a .couplings)) noCoupling fits i (omega (arith, length-take-le n (a .couplings) (omega arith))) in
+      let one = every-at (couplingLinksFit (a .«link_count»)) (take n (a .couplings)) noCoupling (accepted a e .coupled) i (omega (arith, length-take-le n (a .couplings) (omega arith))) in
       let both = both-hold _ _ (rw (getD-take n (a .couplings) i noCoupling h) at one) in
       (ltb-true _ _ (both .0), ltb-true _ _ (both .1))
 
@@ -80,11 +80,11 @@ module _ (a : Arm) (whole : length (a .links) ≡ linkLimit) (all : length (a .c
   -- the call, once nothing is refused
   pub part-given : (s : Split) (k : ℕ) (tables : List Float) (refusal : ℕ) → refusal ≡ partRefusal a s k tables → refusal ≡ 0
       → (m m′ : List ℕ) (r : Counted) → 2 * linkLimit ≤ length m → mapped r m′ ≡ splitAnswer (parentsOf a) s m
-      → (new : Arm) → new ≡ partArm (placesIn m′ k) a → workedAll a new tables ≡ armPart a s k tables
+      → (new : Arm) → new ≡ partArm (placesIn m′ k) a → workedAll emptyArm new tables ≡ armPart a s k tables
   unfolding armPart
   part-given s k tables refusal e z m m′ r room b new q =
       let x = part-accepted a whole s k tables (sym e ∙ z) in
       let w = accepted-whole a whole s (x .0 .arm) in
       let places = part-map a whole s k tables (x .0) m m′ r room b in
-      ap (λ (n : Arm). workedAll a n tables) (q ∙ part-read s k (x .0 .arm) w (x .1) _ m′ places)
-      ∙ go-on e a tables z (workedAll a (partArm (placesOf a s k) a) tables)
+      ap (λ (n : Arm). workedAll emptyArm n tables) (q ∙ part-read s k (x .0 .arm) w (x .1) _ m′ places)
+      ∙ go-on e emptyArm tables z (workedAll emptyArm (partArm (placesOf a s k) a) tables)

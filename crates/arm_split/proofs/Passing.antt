@@ -1,4 +1,4 @@
--- A part of an accepted arm accepted every test of an arm handed in: its first link is a head, every other one's parent is earlier, and what is kept passed
+-- A part of an accepted arm passes every test of an arm handed in: its first link is a head, every other one's parent is earlier, and what is kept passed
 -- before. Assumes nothing.
 use Prim.Native.Nat.{ℕ, zero, suc, min, _≤_, _<_}
 use mathlib.Core.Path.{_≡_, refl, sym, ap, ap₂, _∙_}
@@ -129,7 +129,7 @@ module _ (p : Places) (a : Arm) where
   unfolding couplingsOf partArm
   part-couplings = front-all (partCouplings p a) _ couplingLimit couplings-few
 
-module _ (a : Arm) (s : Split) (k : ℕ) (sized : Sized a) (accepted : armRefusal a ≡ 0) where
+module _ (a : Arm) (s : Split) (k : ℕ) (sized : Sized a) (taken : armRefusal a ≡ 0) where
   abbrev p : Places
   p = placesOf a s k
 
@@ -146,13 +146,13 @@ module _ (a : Arm) (s : Split) (k : ℕ) (sized : Sized a) (accepted : armRefusa
   linkFor j = newLink (isHead ps s j) (numberOf ps s (at j .parent)) (at j)
 
   whole : Whole a (sized .links) s
-  whole = accepted-whole a (sized .links) s accepted
+  whole = accepted-whole a (sized .links) s taken
 
   long : length ps ≡ n
   long = parents-live a (sized .links)
 
   before : Accepted a
-  before = accepted a accepted
+  before = accepted a taken
 
   link-list : partLinks p a ≡ chosen n (isIn ps s k) linkFor
   unfolding partLinks
@@ -267,7 +267,7 @@ module _ (a : Arm) (s : Split) (k : ℕ) (sized : Sized a) (accepted : armRefusa
       → couplingLinksFit (length (partLinks p a)) (newCoupling (numberOf ps s) (couplingAt a i)) ≡ true
   unfolding couplingLinksFit newCoupling
   coupling-fits i h e =
-      let l = coupling-links a (sized .links) (sized .couplings) accepted i h in
+      let l = coupling-links a (sized .links) (sized .couplings) taken i h in
       let q = stays-here (couplingAt a i) e in
       both (lt-ltb _ _ (below (couplingAt a i .link1) (omega (arith, whole .few)) (q .0))) (lt-ltb _ _ (below (couplingAt a i .link2) (omega (arith, whole .few)) (q .1)))
 
@@ -342,30 +342,25 @@ module _ (a : Arm) (s : Split) (k : ℕ) (sized : Sized a) (accepted : armRefusa
 
   rows : rowsFinite (partArm p a) ≡ true
   unfolding rowsFinite rowsOf partArm
-  rows = rows-finite (dofCountOf (partArm p a)) (a .rows) (both-hold (every linkFinite (linksOf a) && every couplingFinite (couplingsOf a)) (rowsFinite a) (before .floats) .1)
+  rows = rows-finite (dofCountOf (partArm p a)) (a .rows) (before .rows)
 
   -- ---- all
 
   part-passes : Accepted (partArm p a)
   unfolding partArm
-  part-passes =
-      let five = both-hold _ (every couplingAxesFit (couplingsOf a)) (before .masks) in
-      let seven = both-hold _ (rowsFinite a) (before .floats) in
-      let each-float = both-hold (every linkFinite (linksOf a)) (every couplingFinite (couplingsOf a)) (seven .0) in
-      record {
-        counts = counts;
-        tags = tags;
-        numbers = both parents (couplings-pass (couplingLinksFit (length (partLinks p a))) coupling-fits);
-        masks =
-            both
-            (both (new-passes linkMasksFit new-masks (both-hold (every linkMasksFit (linksOf a)) (rootFits a) (five .0) .0)) root)
-            (couplings-pass couplingAxesFit (λ i h e. axes i ∙ coupling-passed couplingAxesFit (five .1) i h));
-        floats =
-            both
-            (both (new-passes linkFinite new-finite (each-float .0)) (couplings-pass couplingFinite (λ i h e. coefficients i ∙ coupling-passed couplingFinite (each-float .1) i h)))
-            rows;
-        angles = new-passes linkAngleFits new-angle (before .angles);
-      }
+  part-passes = record {
+    counts = counts;
+    tags = tags;
+    parents = parents;
+    coupled = couplings-pass (couplingLinksFit (length (partLinks p a))) coupling-fits;
+    masks = new-passes linkMasksFit new-masks (before .masks);
+    root = root;
+    axes = couplings-pass couplingAxesFit (λ i h e. axes i ∙ coupling-passed couplingAxesFit (before .axes) i h);
+    links = new-passes linkFinite new-finite (before .links);
+    couplings = couplings-pass couplingFinite (λ i h e. coefficients i ∙ coupling-passed couplingFinite (before .couplings) i h);
+    rows = rows;
+    angles = new-passes linkAngleFits new-angle (before .angles);
+  }
 
 pub passing : PartPasses
-passing a s k sized accepted = not-refused (partArm (placesOf a s k) a) (part-passes a s k sized accepted)
+passing a s k sized taken = not-refused (partArm (placesOf a s k) a) (part-passes a s k sized taken)

@@ -9,10 +9,10 @@ use borrow.Author.Tests.{leb-true, ltb-true, le-leb, le-ltb, lt-ltb}
 use lib.Dec.{leb, ltb}
 use lib.ListN.{length, drop}
 use lib.Ieee.{Float}
-use Rattle.refusal.specs.Counted.{Outcome, out, filled}
+use Rattle.refusal.specs.Counted.{countedOf, Outcome, out, filled}
 use Rattle.refusal.specs.declared.Counted.{Counted}
 use Rattle.limits.specs.Limits.{linkLimit}
-use Rattle.refusal.specs.Refusal.{unlessOf, lowerOf, In}
+use Rattle.refusal.specs.Refusal.{unlessOf, lowerOf, lowest, In}
 use Rattle.refusal.proofs.Laws.{is-lowest, first-holds, rest-accepted}
 use Rattle.topology.specs.declared.Split.{Split}
 use Rattle.topology.specs.Parents.{parentsFit}
@@ -31,7 +31,7 @@ use Rattle.arm_split.specs.Answers.{splitRefusal, armSplit, partRefusal}
 
 module _ (k n : ℕ) (bytes m : List ℕ) where
   given-refusal : filled k n bytes m .answer .refusal ≡ k
-  unfolding filled
+  unfolding filled countedOf
   given-refusal = go k
     where
       go : (k : ℕ) → filled k n bytes m .answer .refusal ≡ k
@@ -39,12 +39,12 @@ module _ (k n : ℕ) (bytes m : List ℕ) where
       go (suc k) = refl
 
 pub given-none : (k n : ℕ) (bytes m : List ℕ) → k ≡ 0 → filled k n bytes m ≡ out (record { refusal = 0; count = n }) (bytes ++ drop (length bytes) m)
-unfolding filled
+unfolding filled countedOf
 given-none zero n bytes m e = refl
 given-none (suc k) n bytes m e = absurd (omega arith)
 
 pub given-some : (k n : ℕ) (bytes m : List ℕ) → (k ≡ 0 → ⊥) → filled k n bytes m ≡ out (record { refusal = k; count = 0 }) m
-unfolding filled
+unfolding filled countedOf
 given-some zero n bytes m e = absurd (e refl)
 given-some (suc k) n bytes m e = refl
 
@@ -121,7 +121,7 @@ module _ (a : Arm) (whole : length (a .links) ≡ linkLimit) (s : Split) where
   module _ (m m′ : List ℕ) (room : 2 * linkLimit ≤ length m) (r : Counted) (bare : out r m′ ≡ splitAnswer (parentsOf a) s m) where
     refused-by : r .refusal ≡ unlessOf (ltb (linkOf s) (length (parentsOf a)) && parentsFit (parentsOf a)) 4
     unfolding splitAnswer
-    refused-by = ap (λ (o : Outcome). o .answer .refusal) bare ∙ given-refusal _ _ _ m ∙ bare-refusal m room
+    refused-by = ap (λ (o : Outcome ℕ). o .answer .refusal) bare ∙ given-refusal _ _ _ m ∙ bare-refusal m room
 
     -- with the arm's own it is the test of the link alone
     pub split-tests : lowerOf (r .refusal) (armRefusal a) ≡ lowerOf (unlessOf (ltb (linkOf s) (a .«link_count»)) 4) (armRefusal a)
@@ -150,23 +150,23 @@ module _ (a : Arm) (whole : length (a .links) ≡ linkLimit) (s : Split) where
         counted : Whole → (b : Bool) → ltb (linkOf s) (length (parentsOf a)) ≡ b
             → lowerOf (unlessOf (ltb k (r .count)) 4) (armRefusal a) ≡ lowerOf (unlessOf b 4) (lowerOf (unlessOf (ltb k (partCount (parentsOf a) s)) 4) (armRefusal a))
         counted w true e =
-            let z : r .count ≡ partCount (parentsOf a) s = ap (λ (o : Outcome). o .answer .count) (bare ∙ given-none _ _ _ m (bare-refusal m room ∙ rw (e, w .fit))) in
+            let z : r .count ≡ partCount (parentsOf a) s = ap (λ (o : Outcome ℕ). o .answer .count) (bare ∙ given-none _ _ _ m (bare-refusal m room ∙ rw (e, w .fit))) in
             rw z
         counted w false e =
             let q : refusalOf (parentsOf a) (linkOf s) (leb (2 * length (parentsOf a)) (length m)) ≡ 4 = bare-refusal m room ∙ rw e in
-            let z : r .count ≡ 0 = ap (λ (o : Outcome). o .answer .count) (bare ∙ given-some _ _ _ m (λ x. omega arith)) in
+            let z : r .count ≡ 0 = ap (λ (o : Outcome ℕ). o .answer .count) (bare ∙ given-some _ _ _ m (λ x. omega arith)) in
             rw (z, le-ltb k 0 (omega arith)) (sym (twice (ltb k (partCount (parentsOf a) s)) (armRefusal a)))
 
     -- the code's refusals
-    module _ (own : ℕ) (mine : own ≡ armRefusal a) (first later k : ℕ) (e : k ≡ lowerOf first later) where
-      pub is-split-refusal : (n : ℕ) (to : List ℕ) → n ≡ liveLinks a → first ≡ unlessOf (leb n (length to / 2)) 1 → later ≡ lowerOf (r .refusal) own → k ≡ splitRefusal a s to
+    module _ (own : ℕ) (mine : own ≡ armRefusal a) (first second k : ℕ) (e : k ≡ lowest (first ∷ second ∷ own ∷ [])) where
+      pub is-split-refusal : (n : ℕ) (to : List ℕ) → n ≡ liveLinks a → first ≡ unlessOf (leb n (length to / 2)) 1 → second ≡ r .refusal → k ≡ splitRefusal a s to
       unfolding splitRefusal
       is-split-refusal n to q x y = rw (e, x, y, mine, half, q, split-tests)
 
-      pub is-part-refusal : (q : ℕ) (tables : List Float) (fits : Bool) (second : ℕ) → fits ≡ tablesFit tables → first ≡ unlessOf fits 1 → second ≡ unlessOf (ltb q (r .count)) 4 → later ≡ lowerOf second own
+      pub is-part-refusal : (q : ℕ) (tables : List Float) (fits : Bool) → fits ≡ tablesFit tables → first ≡ unlessOf fits 1 → second ≡ unlessOf (ltb q (r .count)) 4
           → k ≡ partRefusal a s q tables
       unfolding partRefusal
-      is-part-refusal q tables fits second f x z y = rw (e, x, f, y, z, mine, part-tests q)
+      is-part-refusal q tables fits f x z = rw (e, x, f, z, mine, part-tests q)
 
   -- ---- the calls
 
@@ -227,5 +227,5 @@ module _ (a : Arm) (whole : length (a .links) ≡ linkLimit) (s : Split) where
         → m′ ≡ splitMap (parentsOf a) s (length (parentsOf a)) ++ drop (2 * liveLinks a) m
     part-map x m m′ r room e =
         let n = parents-live a whole in
-        ap (λ (o : Outcome). o .memory) (e ∙ bare-answer m x (omega arith) ∙ given-none 0 _ _ m refl)
+        ap (λ (o : Outcome ℕ). o .memory) (e ∙ bare-answer m x (omega arith) ∙ given-none 0 _ _ m refl)
         ∙ rw (map-length (parentsOf a) s (liveLinks a), n)

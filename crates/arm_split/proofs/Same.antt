@@ -49,7 +49,7 @@ module _ (a : Arm) (p q : Places) (same : Agree a p q) where
   link-same j h e true f = refl
   link-same j h e false f =
       let up = same .parent j h e f in
-      ap (λ (x : ℕ). withInputs (linkAt (a .links) j) x (linkAt (a .links) j .joint)) (same .number _ (up .0) (up .1))
+      ap (λ (x : ℕ). let l = linkAt (a .links) j in withInputs l x (l .joint) (l .centre)) (same .number _ (up .0) (up .1))
 
   links-same : partLinks p a ≡ partLinks q a
   unfolding partLinks

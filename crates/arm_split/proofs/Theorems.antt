@@ -40,7 +40,7 @@ part-sized p a = length-laid (partLinks p a) (emptyArm .links) (omega (arith, li
 pub settles : PartSettles
 unfolding armPart
 settles a s k t sized r =
-    call-settles a (partArm (placesOf a s k) a) (part-sized (placesOf a s k) a) t (partRefusal a s k t)
+    call-settles emptyArm (partArm (placesOf a s k) a) (part-sized (placesOf a s k) a) t (partRefusal a s k t)
     (λ z. passing a s k sized (part-accepted a (sized .links) s k t z .0 .arm)) r .1
 
 -- ---- degrees of freedom

@@ -10,6 +10,7 @@ use Rattle.topology.specs.declared.Split.{Split}
 use Rattle.topology.specs.Split.{linkOf, partCount, splitMap}
 use Rattle.arm.specs.declared.Arm.{Arm}
 use Rattle.arm.specs.Arm.{liveLinks, parentsOf}
+use Rattle.arm.specs.Empty.{emptyArm}
 use Rattle.arm.specs.HandedIn.{armRefusal}
 use Rattle.full_working.specs.Outcome.{Outcome, unlessRefused, tablesFit, workedAll}
 use Rattle.part_arm.specs.Places.{placesOf}
@@ -27,7 +28,7 @@ splitRefusal a s m =
     ∷ [])
 
 -- the part count, and part and number of each link
-unfoldable pub armSplit : Arm → Split → List ℕ → MapOutcome
+unfoldable pub armSplit : Arm → Split → List ℕ → MapOutcome ℕ
 armSplit a s m = filled (splitRefusal a s m) (partCount (parentsOf a) s) (splitMap (parentsOf a) s (liveLinks a)) m
 
 -- ---- a part
@@ -42,6 +43,6 @@ partRefusal a s k t =
     ∷ armRefusal a
     ∷ [])
 
--- part k as an arm, worked out into tables of its own
+-- part k as an arm, worked out into tables of its own; refused: the number, an empty arm, and the tables as they were
 unfoldable pub armPart : Arm → Split → ℕ → List Float → Outcome
-armPart a s k t = unlessRefused (partRefusal a s k t) a t (workedAll a (partArm (placesOf a s k) a) t)
+armPart a s k t = unlessRefused (partRefusal a s k t) emptyArm t (workedAll emptyArm (partArm (placesOf a s k) a) t)

@@ -5,21 +5,17 @@ use mathlib.Core.List.{List}
 use lib.ListN.{length}
 use lib.Ieee.{Float}
 use Rattle.lists.specs.Numbers.{chosen}
-use Rattle.limits.specs.Limits.{linkLimit, couplingLimit, dofLimit}
+use Rattle.limits.specs.Limits.{dofLimit}
 use Rattle.masks.specs.Starts.{totalOf}
 use Rattle.topology.specs.declared.Split.{Split}
 use Rattle.arm.specs.declared.Arm.{Arm}
 use Rattle.arm.specs.Arm.{liveLinks, maskAt, dofCountOf}
+use Rattle.arm.specs.Sized.{Sized}
 use Rattle.arm.specs.HandedIn.{armRefusal}
 use Rattle.full_working.specs.Full.{Settled}
 use Rattle.part_arm.specs.Places.{placesOf, goesOn}
 use Rattle.part_arm.specs.Part.{partEntries, partArm}
 use Rattle.arm_split.specs.Answers.{armPart}
-
--- the arrays have their lengths, as every arm's have
-pub record Sized (a : Arm) : Type 0 where
-  pub links : length (a .links) ≡ linkLimit
-  pub couplings : length (a .couplings) ≡ couplingLimit
 
 -- a part of an accepted arm passes every test of an arm handed in
 abbrev pub PartPasses : Type 0

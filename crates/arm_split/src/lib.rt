@@ -8,13 +8,14 @@ ghost use Rattle.arm_split.specs.Answers.{armSplit, armPart};
 use arm::Arm;
 use arm::Edited;
 use arm::arm_refusal;
+use arm::empty_arm;
 use arm::live_links;
 use arm::parents_of;
 use part_arm::MAP;
 use part_arm::part_arm;
-use refusal::lower;
+use refusal::Counted;
+use refusal::lowest;
 use refusal::unless;
-use topology::Counted;
 use topology::Split;
 use topology::split_map;
 use full_working::tables_fit;
@@ -37,14 +38,15 @@ pub fn split(arm: Arm, s: Split, map: &mut [u8]) -> Counted
     // What the bare list refuses is known before the lent memory is written.
     let bare = map_of(arm, s, &mut places);
     let enough = live_links(arm.link_count) <= map.len() / 2;
-    let refusal = lower(unless(enough, 1), lower(bare.refusal, arm_refusal(arm)));
+    let refusals = [unless(enough, 1), bare.refusal, arm_refusal(arm)];
+    let refusal = lowest(&refusals);
     if refusal != 0 {
         return Counted { refusal, count: 0 };
     }
     map_of(arm, s, map)
 }
 
-// Part k of a split of the arm, itself an arm, its Jacobians worked into tables of its own.
+// Part k of a split of the arm, itself an arm, its Jacobians worked into tables of its own. Refused, it is an empty arm.
 pub fn part(arm: Arm, s: Split, k: u32, tables: &mut [f32]) -> Edited
     ensures { λ r. ⌜ leaves r (now (tables .exit)) ≡ armPart arm s k (now (tables .entry)) ⌝ }
 {
@@ -52,13 +54,18 @@ pub fn part(arm: Arm, s: Split, k: u32, tables: &mut [f32]) -> Edited
     let bare = map_of(arm, s, &mut places);
     // A bare list that is refused has no part, so that 4 is given for its link too.
     let q = k as usize;
-    let refusal = lower(
+    let refusals = [
         unless(tables_fit(tables), 1),
-        lower(unless(q < bare.count, 4), arm_refusal(arm)),
-    );
+        unless(q < bare.count, 4),
+        arm_refusal(arm),
+    ];
+    let refusal = lowest(&refusals);
     if refusal != 0 {
-        return Edited { refusal, arm };
+        return Edited {
+            refusal,
+            arm: empty_arm(),
+        };
     }
     let new = part_arm(arm, places, q);
-    work_all(arm, new, tables)
+    work_all(empty_arm(), new, tables)
 }

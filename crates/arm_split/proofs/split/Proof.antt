@@ -1,6 +1,7 @@
 -- `split`: the refusals are the definition's, and what is written is the bare list's map. Assumes nothing.
 use native.Mathlib.Omega.{arith}
-use mathlib.Core.Path.{_∙_}
+use mathlib.Core.Path.{_≡_, refl, _∙_}
+use Rattle.arm_split.specs.Answers.{splitRefusal}
 use borrow.Author.Needs.{needs}
 use Rattle.arm_split.proofs.Refused.{split-refused, split-given, is-split-refusal}
 use Rattle.arm.proofs.Shape.{links-length}
@@ -22,17 +23,29 @@ unless-requires c κs = search needs
 arm-refusal-requires : tie.Need-arm-refusal-requires
 arm-refusal-requires c κs = search needs
 
-lower-requires : tie.Need-lower-requires
-lower-requires c κs = search needs
+slice-aggregate-lowest : tie.Need-slice-aggregate-lowest
+slice-aggregate-lowest c = search needs
 
-lower-requires-2 : tie.Need-lower-requires-2
-lower-requires-2 c κs = search needs
+lowest-requires : tie.Need-lowest-requires
+lowest-requires c κs = search needs
+
+-- the refusal is the definition's
+refusal : (c : tie.After-lowest) → let begun : tie.Start = search in c .lowest .result ≡ splitRefusal (begun .args .arm) (begun .args .s) (begun .args .map .now)
+refusal c =
+    let begun : tie.Start = search in
+    let mapped : tie.After-map-of = search in
+    let live : tie.After-live-links = search in
+    let room : tie.After-unless = search in
+    let own : tie.After-arm-refusal = search in
+    let a = begun .args .arm in
+    is-split-refusal a (links-length a (begun .good .0)) (begun .args .s) _ _ (omega arith) _ (mapped .map-of .ensures) _ (own .arm-refusal .ensures) _ _ _ (c .lowest .ensures) _
+    (begun .args .map .now) (live .live-links .ensures) (room .unless .ensures) refl
 
 returns : tie.Need-returns
 returns c =
-    let s = c .before .before .before .before .before .before .before .before .before .before in
-    let w = links-length (s .args .arm) (s .good .0) in
-    split-refused (s .args .arm) w (s .args .s) (s .args .map .now) _ (is-split-refusal (s .args .arm) w (s .args .s) _ _ (omega arith) _ (c .before .before .before .before .before .before .before .map-of .ensures) _ (c .before .before .before .arm-refusal .ensures) _ _ _ (c .before .lower2 .ensures) _ (s .args .map .now) (c .before .before .before .before .before .live-links .ensures) (c .before .before .before .before .unless .ensures) (c .before .before .lower .ensures)) (c .if1 .taken)
+    let begun : tie.Start = search in
+    let a = begun .args .arm in
+    split-refused a (links-length a (begun .good .0)) (begun .args .s) (begun .args .map .now) _ (refusal (c .before)) (c .if1 .taken)
 
 map-of-requires-2 : tie.Need-map-of-requires-2
 map-of-requires-2 c κs = search needs
@@ -42,9 +55,12 @@ same-length c = search needs
 
 returns-2 : tie.Need-returns-2
 returns-2 c =
-    let s = c .before .before .before .before .before .before .before .before .before .before .before .before .before .before in
-    let w = links-length (s .args .arm) (s .good .0) in
-    c .before .before .map-of2 .ensures ∙ split-given (s .args .arm) w (s .args .s) (s .args .map .now) _ (is-split-refusal (s .args .arm) w (s .args .s) _ _ (omega arith) _ (c .before .before .before .before .before .before .before .before .before .before .before .map-of .ensures) _ (c .before .before .before .before .before .before .before .arm-refusal .ensures) _ _ _ (c .before .before .before .before .before .lower2 .ensures) _ (s .args .map .now) (c .before .before .before .before .before .before .before .before .before .live-links .ensures) (c .before .before .before .before .before .before .before .before .unless .ensures) (c .before .before .before .before .before .before .lower .ensures)) (c .before .before .before .before .if1 .left)
+    let begun : tie.Start = search in
+    let tested : tie.After-lowest = search in
+    let accepted : tie.Else1 = search in
+    let a = begun .args .arm in
+    c .before .before .map-of2 .ensures
+    ∙ split-given a (links-length a (begun .good .0)) (begun .args .s) (begun .args .map .now) _ (refusal tested) (accepted .if1 .left)
 
 pub split-spec : {M : Type 1} → statement M
 split-spec =
@@ -55,8 +71,8 @@ split-spec =
     live-links-requires
     unless-requires
     arm-refusal-requires
-    lower-requires
-    lower-requires-2
+    slice-aggregate-lowest
+    lowest-requires
     returns
     map-of-requires-2
     same-length
