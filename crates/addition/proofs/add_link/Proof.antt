@@ -1,12 +1,10 @@
 -- `add_link`: a refusal, or the new link worked out. Assumes nothing.
 use Prim.Native.Nat.{_+_, _≤_}
-use mathlib.Core.Path.{_∙_, ap, refl, sym}
+use mathlib.Core.Path.{_∙_, refl, sym}
 use native.Mathlib.Omega.{arith}
 use borrow.Author.Tests.{not-false, not-true}
 use Rattle.limits.specs.Limits.{dofLimit}
-use Rattle.arm.specs.declared.Arm.{Arm}
 use Rattle.arm.proofs.Shape.{links-length}
-use Rattle.full_working.specs.Outcome.{says}
 use Rattle.full_working.proofs.Refused.{refused}
 use Rattle.addition.specs.Inner.{Small}
 use Rattle.addition.specs.Addition.{linkAdded}
@@ -140,11 +138,11 @@ returns-3 c =
     let ok = accepted at in
     let h = handed (ok .before) in
     let s = start ok in
-    ap (λ (a : Arm). says 0 a _) (c .arm-with .ensures)
-    ∙ placed-on (s .args .arm) (links-length (s .args .arm) (s .good .0)) (s .args .tables .now) (s .args .new) _ (ok .before .add-refusal .ensures) (ok .if1 .left)
+    rw (c .arm-with .ensures)
+    (placed-on (s .args .arm) (links-length (s .args .arm) (s .good .0)) (s .args .tables .now) (s .args .new) _ (ok .before .add-refusal .ensures) (ok .if1 .left)
     (h .handed-in .result) (h .handed-in .ensures) (at .start-among .result) (at .start-among .ensures) (new .link-of .result) _ _ (new .link-of .ensures)
     (p .fewer .result) (p .fewer .ensures) refl (turn .refresh-one .result) _ (turn .refresh-one .ensures) (not-false (turn .refresh-one .result .fine) (fine .if2 .left))
-    _ (c .before .with-new-entries .ensures) _ refl
+    _ (c .before .with-new-entries .ensures) _ refl)
 
 pub add-link-spec : {M : Type 1} → statement M
 add-link-spec =

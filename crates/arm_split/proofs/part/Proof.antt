@@ -7,7 +7,7 @@ use Rattle.arm_split.proofs.Refused.{is-part-refusal}
 use Rattle.arm_split.specs.Answers.{partRefusal, armPart}
 use Rattle.arm.specs.declared.Arm.{Arm}
 use Rattle.arm.specs.Empty.{emptyArm}
-use Rattle.full_working.specs.Outcome.{says, workedAll}
+use Rattle.full_working.specs.Outcome.{workedAll}
 use Rattle.full_working.proofs.Refused.{refused}
 use Rattle.arm.proofs.Shape.{links-length, couplings-length}
 use Rattle.arm_split.proofs.part.Statement.{statement}
@@ -71,7 +71,7 @@ returns c =
     let tested : tie.After-lowest = search in
     let taken : tie.Then1 = search in
     let t = begun .args .tables .now in
-    ap (λ (a : Arm). says _ a t) (c .empty-arm .ensures) ∙ refused (refusal tested) emptyArm t (taken .if1 .taken) _
+    rw (c .empty-arm .ensures) (refused (refusal tested) emptyArm t (taken .if1 .taken) _)
 
 part-arm-requires : tie.Need-part-arm-requires
 part-arm-requires c κs = search needs
