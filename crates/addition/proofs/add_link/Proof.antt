@@ -140,7 +140,7 @@ returns-3 c =
     let ok = accepted at in
     let h = handed (ok .before) in
     let s = start ok in
-    ap (λ (a : Arm). says 0 a _) (c .arm-with .ensures)
+    ap (λ (a : Arm). says 0 a (turn .refresh-one .last .1 .1 .1 .1 .0)) (c .arm-with .ensures)
     ∙ placed-on (s .args .arm) (links-length (s .args .arm) (s .good .0)) (s .args .tables .now) (s .args .new) _ (ok .before .add-refusal .ensures) (ok .if1 .left)
     (h .handed-in .result) (h .handed-in .ensures) (at .start-among .result) (at .start-among .ensures) (new .link-of .result) _ _ (new .link-of .ensures)
     (p .fewer .result) (p .fewer .ensures) refl (turn .refresh-one .result) _ (turn .refresh-one .ensures) (not-false (turn .refresh-one .result .fine) (fine .if2 .left))
