@@ -22,6 +22,7 @@ use Rattle.kinematics.specs.State.{stateAfter, fineAfter, cleared}
 use Rattle.full_working.specs.Outcome.{Outcome}
 use Rattle.full_working.specs.Full.{fullRefusal, fullWorking, Settled}
 use Rattle.full_working.specs.Empty.{emptied}
+use Rattle.full_working.proofs.Unused.{unused-zero}
 use Rattle.arm_edits.specs.Rows.{writeRefusal, withEntry}
 use Rattle.arm_edits.specs.Springs.{springRefusal, withLinkSpring}
 use Rattle.arm_edits.specs.Couplings.{couplingRefusal, withCoupling}
@@ -121,6 +122,7 @@ module _ (a : Arm) (t : List Float) (k : Held a t) where
   never-stale : NeverStale a t
   never-stale = record {
     settled = k .settled;
+    unused = unused-zero a (w .sized .links) t (k .settled);
     move = the-move a t (w .sized) (k .settled);
     addition = the-addition a t (w .sized) (k .settled);
     refused = left;
