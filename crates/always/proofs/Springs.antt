@@ -23,8 +23,8 @@ use Rattle.masks.specs.Starts.{startOf}
 use Rattle.planar.specs.Poses.{finiteRotation, finitePoint, finitePose}
 use Rattle.multibody_joint.specs.declared.Joint.{Joint}
 use Rattle.multibody_joint.specs.declared.Spring.{Spring}
-use Rattle.multibody_joint.specs.Joint.{slidBy, slidPose, bodyToParent}
-use Rattle.multibody_joint.specs.Springs.{withSpring, springSet}
+use Rattle.multibody_joint.specs.Joint.{withSprings, slidBy, slidPose, bodyToParent}
+use Rattle.multibody_joint.specs.Springs.{springSet}
 use Rattle.arm.specs.declared.Link.{Link}
 use Rattle.arm.specs.declared.Arm.{Arm}
 use Rattle.arm.specs.Arm.{liveLinks, linksOf, masksOf, noLink, linkAt, lockedOf}
@@ -80,6 +80,9 @@ result-plain par xs s j = ap₂ (cond (ltb (par j) j)) (later-plain (keptAt s (p
 -- the test of a joint but for its springs
 abbrev motionFinite : Joint → Bool
 motionFinite j = ((finitePose (j .frame1) && finitePose (j .frame2)) && allFinite (j .coordinates)) && finiteRotation (j .rotation)
+
+abbrev withSpring : Joint → ℕ → Spring → Joint
+withSpring j axis s = withSprings j (set (j .stiffness) axis (s .stiffness)) (set (j .rest) axis (s .rest))
 
 abbrev bare : Link → Link
 bare l = withJoint l (springless (l .joint))
