@@ -22,6 +22,7 @@ use Rattle.kinematics.specs.State.{stateAfter, fineAfter, cleared}
 use Rattle.full_working.specs.Outcome.{Outcome}
 use Rattle.full_working.specs.Full.{fullRefusal, fullWorking, Settled}
 use Rattle.full_working.specs.Empty.{emptied}
+use Rattle.full_working.proofs.Unused.{unused-zero}
 use Rattle.arm_edits.specs.Rows.{writeRefusal, withEntry}
 use Rattle.arm_edits.specs.Springs.{springRefusal, withLinkSpring}
 use Rattle.arm_edits.specs.Couplings.{couplingRefusal, withCoupling}
@@ -101,9 +102,9 @@ module _ (a : Arm) (t : List Float) (k : Held a t) where
     shaped = call-shaped (stepRefusal a (armAfter a dt) t dt) a (armAfter a dt) t w (step-shaped a dt w);
     settled = step-keeps a t dt (w .sized .links) (w .three 0 (omega arith)) (k .settled) .2;
   }
-  holds (rootChange locked pose) = record {
-    shaped = call-shaped (rootRefusal a t locked pose) a (rootChanged a locked pose) t w (root-shaped a locked pose w);
-    settled = root-keeps a t locked pose (w .sized .links) (w .three 0 (omega arith)) (k .settled) .2;
+  holds (rootChange root) = record {
+    shaped = call-shaped (rootRefusal a t root) a (rootChanged a root) t w (root-shaped a root w);
+    settled = root-keeps a t root (w .sized .links) (w .three 0 (omega arith)) (k .settled) .2;
   }
   holds working = subst Holds (sym (k .settled)) k
 
@@ -115,12 +116,13 @@ module _ (a : Arm) (t : List Float) (k : Held a t) where
   left (coupling c) = coupling-right a t (w .sized) (k .settled) c .left
   left (move link change) = the-move a t (w .sized) (k .settled) link change .left
   left (step dt) = call-left (stepRefusal a (armAfter a dt) t dt) a (armAfter a dt) t
-  left (rootChange locked pose) = call-left (rootRefusal a t locked pose) a (rootChanged a locked pose) t
+  left (rootChange root) = call-left (rootRefusal a t root) a (rootChanged a root) t
   left working = call-left (fullRefusal a t) a a t
 
   never-stale : NeverStale a t
   never-stale = record {
     settled = k .settled;
+    unused = unused-zero a (w .sized .links) t (k .settled);
     move = the-move a t (w .sized) (k .settled);
     addition = the-addition a t (w .sized) (k .settled);
     refused = left;

@@ -9,7 +9,7 @@ use lib.Dec.{eqb, ltb}
 use lib.ListN.{length, take, drop, getD, set, replicate, length-set, length-map, length-append, length-drop, List·getD-map, List·getD-append}
 use lib.Seq.{getD-append-add, getD-drop, length-take-le}
 use lib.Ieee.{Float}
-use Rattle.arm.specs.Setters.{withLinks, withPlace}
+use Rattle.arm.specs.Setters.{unplaced, withLinks, withPlace}
 use Rattle.lists.proofs.Modified.{length-modify, modify-same, modify-other, modify-field}
 use Rattle.lists.proofs.Lists.{map-at}
 use Rattle.arm.specs.Sized.{Sized}
@@ -18,7 +18,6 @@ use Rattle.lists.proofs.Numbers.{length-each, getD-each}
 use Rattle.lists.specs.Numbers.{each}
 use Rattle.limits.specs.Limits.{linkLimit, dofLimit}
 use Rattle.floats.specs.Floats.{zero32}
-use Rattle.planar.specs.declared.Pose.{Pose}
 use Rattle.planar.specs.Rotation.{rotationAt}
 use Rattle.multibody_joint.specs.Joint.{withMotion, freeJoint, fixedJoint, freePosSet, withFrames, newJoint}
 use Rattle.multibody_joint.specs.Motion.{integrated}
@@ -38,7 +37,9 @@ use Rattle.one_link_move.specs.Change.{coordinateSet, changed, movedInputs}
 use Rattle.addition.specs.declared.NewLink.{NewLink}
 use Rattle.addition.specs.NewLink.{linkOf, addedInputs}
 use Rattle.whole_step.specs.Step.{linkIntegrated, linkAfter, linksAfter, velocitiesOf, armAfter}
-use Rattle.root_change.specs.Root.{rootJoint, rootLink, widened, narrowed, rootRow, rootMask, rootRows, rootChanged}
+use Rattle.root_change.specs.declared.Root.{Root}
+use Rattle.root_change.specs.declared.Root.the-variants.{Free, Fixed}
+use Rattle.root_change.specs.Root.{lockedBy, rootJoint, rootLink, widened, narrowed, rootRow, rootMask, rootRows, rootChanged}
 
 -- how many coordinates a link's joint has
 abbrev pub coordinates : Link → ℕ
@@ -127,7 +128,7 @@ unfolding movedInputs
 move-three a link change = coordinates-stay (changed change) (changed-coordinates change) a link
 
 pub addition-three : (a : Arm) (new : NewLink) → a .«link_count» < linkLimit → Threes a → Threes (addedInputs a new)
-unfolding addedInputs linkOf
+unfolding addedInputs linkOf unplaced newJoint
 addition-three a new room three j h = set-field coordinates (a .links) (a .«link_count») (linkOf new) (sym (three (a .«link_count») room)) j ∙ three j h
 
 -- ---- a list in front of what stays of another
@@ -187,28 +188,32 @@ root-row from to r e = go (eqb from to) (eqb to 0)
     go false true = length-append (replicate 3 zero32) (take (dofLimit - 3) (r .entries)) ∙ omega (arith, length-take-le (dofLimit - 3) (r .entries) (omega arith))
     go false false = length-append (drop 3 (r .entries)) (replicate 3 zero32) ∙ omega (arith, length-drop 3 (r .entries))
 
-root-three : (locked : ℕ) (pose : Pose) (l : Link) → coordinates l ≡ 3 → coordinates (rootLink locked pose l) ≡ 3
-unfolding rootLink rootJoint freePosSet withFrames freeJoint fixedJoint newJoint
-root-three locked pose l e = go (eqb (l .joint .locked) locked) (eqb locked 0)
+root-three : (root : Root) (l : Link) → coordinates l ≡ 3 → coordinates (rootLink root l) ≡ 3
+unfolding rootLink rootJoint freePosSet freeJoint fixedJoint newJoint
+root-three (Free p) l e = go (eqb (l .joint .locked) 0)
   where
-    go : (s f : Bool) → length (cond s (cond f (freePosSet (l .joint) pose) (withFrames (l .joint) pose)) (cond f (freeJoint pose) (fixedJoint pose)) .coordinates) ≡ 3
-    go true true = refl
-    go true false = e
-    go false true = refl
-    go false false = refl
+    go : (s : Bool) → length (cond s (freePosSet (l .joint) p) (freeJoint p) .coordinates) ≡ 3
+    go true = refl
+    go false = refl
+root-three (Fixed p) l e = go (eqb (l .joint .locked) 7)
+  where
+    go : (s : Bool) → length (cond s (withFrames (l .joint) p (l .joint .frame2)) (fixedJoint p) .coordinates) ≡ 3
+    go true = e
+    go false = refl
 
-pub root-shaped : (a : Arm) (locked : ℕ) (pose : Pose) → Shaped a → Shaped (rootChanged a locked pose)
+pub root-shaped : (a : Arm) (root : Root) → Shaped a → Shaped (rootChanged a root)
 unfolding rootChanged rootRows
-root-shaped a locked pose k = record {
+root-shaped a root k = record {
   sized = record {
-    links = length-modify (rootLink locked pose) 0 (a .links) ∙ k .sized .links;
+    links = length-modify (rootLink root) 0 (a .links) ∙ k .sized .links;
     couplings = k .sized .couplings;
-    rows = length-map (a .rows) (rootRow (rootMask a) locked) ∙ k .sized .rows;
-    entries = rows-sized a (k .sized) (rootRow (rootMask a) locked) (root-row (rootMask a) locked);
+    rows = length-map (a .rows) (rootRow (rootMask a) (lockedBy root)) ∙ k .sized .rows;
+    entries = rows-sized a (k .sized) (rootRow (rootMask a) (lockedBy root)) (root-row (rootMask a) (lockedBy root));
   };
   three = each-three;
 }
   where
-    each-three : (j : ℕ) → j < linkLimit → coordinates (linkAt (modify (rootLink locked pose) 0 (a .links)) j) ≡ 3
-    each-three zero h = ap coordinates (modify-same (rootLink locked pose) 0 (a .links) noLink (omega (arith, k .sized .links))) ∙ root-three locked pose (linkAt (a .links) 0) (k .three 0 h)
-    each-three (suc j) h = ap coordinates (modify-other (rootLink locked pose) 0 (suc j) (a .links) noLink (λ z. omega arith)) ∙ k .three (suc j) h
+    each-three : (j : ℕ) → j < linkLimit → coordinates (linkAt (modify (rootLink root) 0 (a .links)) j) ≡ 3
+    each-three zero h =
+        ap coordinates (modify-same (rootLink root) 0 (a .links) noLink (omega (arith, k .sized .links))) ∙ root-three root (linkAt (a .links) 0) (k .three 0 h)
+    each-three (suc j) h = ap coordinates (modify-other (rootLink root) 0 (suc j) (a .links) noLink (λ z. omega arith)) ∙ k .three (suc j) h

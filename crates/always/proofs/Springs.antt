@@ -13,7 +13,7 @@ use Rattle.arm.proofs.Accepted.{accepted, not-refused, Accepted, accepted, not-
 use Rattle.refusal.proofs.Laws.{holds-in}
 use Rattle.arm.proofs.Relinked.{standing, still-accepted}
 use Rattle.arm.specs.Setters.{withLinks, withJoint}
-use Rattle.lists.proofs.Lists.{same-map}
+use Rattle.lists.proofs.Lists.{same-map, same-front}
 use Rattle.lists.proofs.Modified.{length-modify, modify-other, modify-field, modify-tests}
 use Rattle.arm.specs.Sized.{Sized}
 use Rattle.lists.specs.Lists.{modify}
@@ -23,11 +23,11 @@ use Rattle.masks.specs.Starts.{startOf}
 use Rattle.planar.specs.Poses.{finiteRotation, finitePoint, finitePose}
 use Rattle.multibody_joint.specs.declared.Joint.{Joint}
 use Rattle.multibody_joint.specs.declared.Spring.{Spring}
-use Rattle.multibody_joint.specs.Joint.{slidBy, slidPose, bodyToParent}
-use Rattle.multibody_joint.specs.Springs.{withSpring, springSet}
+use Rattle.multibody_joint.specs.Joint.{withSprings, slidBy, slidPose, bodyToParent}
+use Rattle.multibody_joint.specs.Springs.{springSet}
 use Rattle.arm.specs.declared.Link.{Link}
 use Rattle.arm.specs.declared.Arm.{Arm}
-use Rattle.arm.specs.Arm.{liveLinks, linksOf, noLink, linkAt, lockedOf}
+use Rattle.arm.specs.Arm.{liveLinks, linksOf, masksOf, noLink, linkAt, lockedOf}
 use Rattle.arm.specs.HandedIn.{jointFinite, linkFinite, angleFits, linkAngleFits}
 use Rattle.arm_edits.specs.Springs.{springFinite, springEntries, springRefusal, linkSpringSet, withLinkSpring, armSpringSet}
 use Rattle.kinematics.specs.Blocks.{blockAt}
@@ -40,7 +40,7 @@ use Rattle.full_working.specs.Outcome.{out}
 use Rattle.full_working.specs.Full.{Settled}
 use Rattle.one_link.specs.Promise.{Right}
 use Rattle.one_link.proofs.Settles.{facts, nowhere}
-use Rattle.one_link.proofs.Right.{Edit}
+use Rattle.one_link.proofs.Right.{Edit, same-entries}
 use Rattle.always.proofs.Unworked.{edit-right}
 use Rattle.always.proofs.Rows.{set-finite}
 use Rattle.always.proofs.Shapes.{coordinates, Threes, coordinates-stay}
@@ -80,6 +80,9 @@ result-plain par xs s j = ap₂ (cond (ltb (par j) j)) (later-plain (keptAt s (p
 -- the test of a joint but for its springs
 abbrev motionFinite : Joint → Bool
 motionFinite j = ((finitePose (j .frame1) && finitePose (j .frame2)) && allFinite (j .coordinates)) && finiteRotation (j .rotation)
+
+abbrev withSpring : Joint → ℕ → Spring → Joint
+withSpring j axis s = withSprings j (set (j .stiffness) axis (s .stiffness)) (set (j .rest) axis (s .rest))
 
 abbrev bare : Link → Link
 bare l = withJoint l (springless (l .joint))
@@ -136,6 +139,10 @@ module _ (a : Arm) (t : List Float) (sized : Sized a) (settled : Settled a t) (l
   same-length : length ls′ ≡ length ls
   same-length = length-modify (linkSpringSet axis s) link ls
 
+  same-masks : masksOf (withLinks a ls′) ≡ masksOf a
+  unfolding masksOf linksOf
+  same-masks = same-front lockedOf noLink (liveLinks a) ls′ ls same-length (λ j. ap lockedOf (same j))
+
   parent-same : (j : ℕ) → parentAt ls′ j ≡ parentAt ls j
   unfolding parentAt
   parent-same j = ap (λ (l : Link). l .parent) (same j)
@@ -185,6 +192,7 @@ module _ (a : Arm) (t : List Float) (sized : Sized a) (settled : Settled a t) (l
         };
         ok = λ z. still-ok (holds-in (springEntries a link axis s) e (springFinite s) 6 (inr (inr (inl refl)))) (k .ok);
         apart = λ j h z. (λ q. refl, modify-other (linkSpringSet axis s) link j ls noLink z);
+        entries = λ j h z name. same-entries (withLinks a ls′) a same-masks refl name j;
       }
 
   pub spring-right : Right a t (springRefusal a link axis s) (withLinkSpring a link axis s) (λ j. j ≡ link) (out (armSpringSet a link axis s) t)

@@ -2,7 +2,6 @@
 use Prim.Native.Nat.{ℕ}
 use mathlib.Core.List.{List, [], _∷_}
 use lib.Ieee.{Float}
-use Rattle.planar.specs.declared.Pose.{Pose}
 use Rattle.multibody_joint.specs.declared.Spring.{Spring}
 use Rattle.arm.specs.declared.RowName.{RowName}
 use Rattle.arm.specs.declared.Arm.{Arm}
@@ -17,6 +16,7 @@ use Rattle.one_link_move.specs.Move.{linkMoved}
 use Rattle.addition.specs.declared.NewLink.{NewLink}
 use Rattle.addition.specs.Addition.{linkAdded}
 use Rattle.whole_step.specs.Step.{wholeStep}
+use Rattle.root_change.specs.declared.Root.{Root}
 use Rattle.root_change.specs.Root.{changedRoot}
 
 -- a call, with what the caller gives: any numbers, any floats
@@ -31,8 +31,8 @@ pub data Call : Type 0 where
   move : ℕ → Change → Call
   -- by dt
   step : Float → Call
-  -- the type, which is the root's locked mask, and the pose
-  rootChange : ℕ → Pose → Call
+  -- what the root becomes
+  rootChange : Root → Call
   -- the full working
   working : Call
 
@@ -44,7 +44,7 @@ called a t (spring link axis s) = out (armSpringSet a link axis s) t
 called a t (coupling c) = out (couplingAdded a c) t
 called a t (move link change) = linkMoved a t link change
 called a t (step dt) = wholeStep a t dt
-called a t (rootChange locked pose) = changedRoot a t locked pose
+called a t (rootChange root) = changedRoot a t root
 called a t working = fullWorking a t
 
 -- each call is handed the arm that the one before it returned, refused or not, and the memory as that left it

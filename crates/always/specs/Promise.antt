@@ -8,6 +8,7 @@ use Rattle.arm.specs.Empty.{emptyArm}
 use Rattle.limits.specs.Limits.{tableSize}
 use Rattle.topology.specs.declared.Split.{Split}
 use Rattle.arm.specs.declared.Arm.{Arm}
+use Rattle.kinematics.specs.Unused.{UnusedZero}
 use Rattle.full_working.specs.Outcome.{Outcome, says}
 use Rattle.full_working.specs.Full.{Settled}
 use Rattle.full_working.specs.Empty.{emptied}
@@ -27,8 +28,11 @@ use Rattle.always.specs.Calls.{Call, called, run}
 pub record NeverStale (a : Arm) (t : List Float) : Type 0 where
   -- poses, shifts and all floats of the tables are those of the full working of the arm as it is: that is not refused, and changes no bit
   pub settled : Settled a t
-  -- a move of any link (`Right`): it changes no bit of a link that is neither the moved one nor below it, by the parents; it is refused for its results
-  -- exactly when the full working of the arm with the changed inputs would be; and where it isn't refused it leaves what that leaves
+  -- unused places of the tables hold +0: blocks past the link count, and in a link's block every column that is no degree of freedom of a link at or above it
+  pub unused : UnusedZero (a .links) (a .«link_count») t
+  -- a move of any link (`Right`): of a link that is neither the moved one nor below it, by the parents, it changes no bit, nor of its block and its row
+  -- entries; it is refused for its results exactly when the full working of the arm with the changed inputs would be; and where it isn't refused it leaves what
+  -- that leaves
   pub move : (link : ℕ) (change : Change) → Right a t (moveRefusal a t link change) (movedInputs a link change) (AtOrBelow a link) (linkMoved a t link change)
   -- an addition likewise: the added link is all that may change
   pub addition : (new : NewLink) → Right a t (addRefusal a t new) (addedInputs a new) (IsAdded a) (linkAdded a t new)
