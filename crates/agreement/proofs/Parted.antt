@@ -1,14 +1,13 @@
 -- Arms that agree have the same parts: links, couplings and entries are gathered from those that count. Assumes nothing.
 use Prim.Native.Nat.{ℕ, zero, suc, min, _+_, _≤_, _<_}
 use mathlib.Core.Path.{_≡_, refl, sym, ap, _∙_}
-use mathlib.Core.Bool.{Bool, true, false, cond}
+use mathlib.Core.Bool.{cond}
 use mathlib.Core.List.{List, [], _∷_, map}
 use native.Mathlib.Omega.{arith}
 use lib.ListN.{take, drop, getD}
 use lib.Seq.{take-take, getD-take}
 use lib.Ieee.{Float}
 use Rattle.arm.specs.Empty.{blankRow}
-use Rattle.arm.specs.Setters.{withLinks}
 use Rattle.lists.specs.Lists.{laid}
 use Rattle.lists.specs.Numbers.{gathered, chosen}
 use Rattle.arm.specs.Sized.{Sized}
@@ -24,12 +23,9 @@ use Rattle.arm.specs.Arm.{liveLinks, couplingsOf, maskAt, startAt, dofCountOf, 
 use Rattle.arm.specs.Agree.{Agree}
 use Rattle.arm.proofs.Live.{part-within}
 use Rattle.arm.proofs.Agree.{same-parents, same-mask-at, same-start}
-use Rattle.kinematics.specs.Answers.{refreshAll}
-use Rattle.full_working.specs.Outcome.{out, workedBy, workedAll}
 use Rattle.part_arm.specs.Places.{Places, placesOf, goesOn}
 use Rattle.part_arm.specs.Part.{newLink, partLinks, ownEntries, partEntries, partRow, couplingStays, newCoupling, partCouplings, partArm}
 use Rattle.arm_split.proofs.Same.{gathered-same}
-use Rattle.agreement.specs.Respects.{Alike}
 use Rattle.agreement.proofs.Rows.{of-rows}
 use Rattle.agreement.proofs.Worked.{same-link}
 
@@ -109,16 +105,3 @@ pub part-same : (a b : Arm) → Sized a → Sized b → Agree a b → (s : Split
 part-same a b x y g s k =
     arm-same (placesOf a s k) a b x y g
     ∙ ap (λ (ps : List ℕ). partArm (record { here = isIn ps s k; head = isHead ps s; number = numberOf ps s }) b) (same-parents a b g)
-
--- ---- the same new arm worked out, from arms that agree
-
-pub same-worked : (a b new : Arm) (t : List Float) → Agree a b → Alike (workedAll a new t) (workedAll b new t)
-unfolding workedAll workedBy
-same-worked a b new t g =
-    let p = refreshAll (new .links) (new .«link_count») t in
-    by-test (p .answer .fine) (withLinks new (p .answer .links)) (p .memory)
-  where
-    by-test : (f : Bool) (x : Arm) (m : List Float)
-        → Alike (out (cond f (record { refusal = 0; arm = x }) (record { refusal = 12; arm = a })) m) (out (cond f (record { refusal = 0; arm = x }) (record { refusal = 12; arm = b })) m)
-    by-test true x m = record { answer = record { refusal = refl; arm = record { link-count = refl; coupling-count = refl; links = refl; couplings = refl; rows = refl } }; memory = refl }
-    by-test false x m = record { answer = record { refusal = refl; arm = g }; memory = refl }

@@ -20,7 +20,6 @@ use Rattle.floats.specs.Floats.{zero32}
 use Rattle.masks.specs.Masks.{dofsOf}
 use Rattle.masks.specs.Starts.{totalOf}
 use Rattle.masks.proofs.Laws.{fixed-dofs, free-dofs}
-use Rattle.planar.specs.declared.Pose.{Pose}
 use Rattle.arm.specs.declared.Link.{Link}
 use Rattle.arm.specs.declared.Row.{Row}
 use Rattle.arm.specs.declared.Arm.{Arm}
@@ -28,8 +27,9 @@ use Rattle.arm.specs.Arm.{liveLinks, linksOf, couplingsOf, parentOf, lockedOf, 
 use Rattle.arm.specs.HandedIn.{armRefusal}
 use Rattle.arm.specs.Agree.{Agree}
 use Rattle.arm.proofs.Live.{masks-live, mask-there, dof-count-le}
-use Rattle.root_change.specs.Root.{rootLink, widened, narrowed, rootRow, rootMask, rootRows, rootChanged}
-use Rattle.root_change.proofs.Settled.{Kind, root-kind, kinds, root-locked}
+use Rattle.root_change.specs.declared.Root.{Root}
+use Rattle.root_change.specs.Root.{lockedBy, rootLink, widened, narrowed, rootRow, rootMask, rootRows, rootChanged}
+use Rattle.root_change.proofs.Settled.{Kind, root-kind, kind-by, kinds, root-locked}
 use Rattle.agreement.proofs.Rows.{of-rows}
 use Rattle.agreement.proofs.Worked.{same-link, Workable, workable}
 
@@ -90,65 +90,64 @@ first-total (m ∷ ms) to h = omega arith
 -- ---- an arm
 
 -- what a change that is not refused passed
-pub record Passed (a : Arm) (locked : ℕ) : Type 0 where
+pub record Passed (a : Arm) : Type 0 where
   pub some : 0 < a .«link_count»
-  pub kind : Kind locked
   pub arm : armRefusal a ≡ 0
 
-module _ (a : Arm) (s : Sized a) (locked : ℕ) (p : Pose) (k : Passed a locked) where
-  links-rooted : linksOf (rootChanged a locked p) ≡ modify (rootLink locked p) 0 (linksOf a)
+module _ (a : Arm) (s : Sized a) (root : Root) (k : Passed a) where
+  links-rooted : linksOf (rootChanged a root) ≡ modify (rootLink root) 0 (linksOf a)
   unfolding linksOf rootChanged
-  links-rooted = take-modify (rootLink locked p) (liveLinks a) (a .links) 0
+  links-rooted = take-modify (rootLink root) (liveLinks a) (a .links) 0
 
-  parents-rooted : parentsOf (rootChanged a locked p) ≡ parentsOf a
+  parents-rooted : parentsOf (rootChanged a root) ≡ parentsOf a
   unfolding parentsOf rootLink
-  parents-rooted = ap (map parentOf) links-rooted ∙ map-modify-same (rootLink locked p) parentOf (λ l. refl) (linksOf a) 0
+  parents-rooted = ap (map parentOf) links-rooted ∙ map-modify-same (rootLink root) parentOf (λ l. refl) (linksOf a) 0
 
-  masks-rooted : masksOf (rootChanged a locked p) ≡ modify (λ (m : ℕ). locked) 0 (masksOf a)
+  masks-rooted : masksOf (rootChanged a root) ≡ modify (λ (m : ℕ). lockedBy root) 0 (masksOf a)
   unfolding masksOf rootLink
-  masks-rooted = ap (map lockedOf) links-rooted ∙ map-modify (rootLink locked p) lockedOf (λ (m : ℕ). locked) (λ (l : Link). root-locked locked p (l .joint) (k .kind)) (linksOf a) 0
+  masks-rooted = ap (map lockedOf) links-rooted ∙ map-modify (rootLink root) lockedOf (λ (m : ℕ). lockedBy root) (λ (l : Link). root-locked root (l .joint)) (linksOf a) 0
 
   there : 0 < liveLinks a
   there = omega (arith, k .some)
 
-  dofs-rooted : dofCountOf (rootChanged a locked p) + dofsOf (rootMask a) ≡ dofCountOf a + dofsOf locked
+  dofs-rooted : dofCountOf (rootChanged a root) + dofsOf (rootMask a) ≡ dofCountOf a + dofsOf (lockedBy root)
   unfolding dofCountOf maskAt
   dofs-rooted =
       ap₂ (λ (x y : ℕ). x + y) (ap totalOf masks-rooted) (ap dofsOf (mask-there a (s .links) 0 noLink there))
-      ∙ first-total (masksOf a) locked (omega (arith, masks-live a (s .links), there))
+      ∙ first-total (masksOf a) (lockedBy root) (omega (arith, masks-live a (s .links), there))
 
   was-kind : Kind (rootMask a)
   was-kind = root-kind a (s .links) (λ z. omega (arith, k .some)) ∙ accepted a (k .arm) .root
 
-  rows-rooted : rowsOf (rootChanged a locked p) ≡ map (rerooted (rootMask a) locked) (rowsOf a)
+  rows-rooted : rowsOf (rootChanged a root) ≡ map (rerooted (rootMask a) (lockedBy root)) (rowsOf a)
   unfolding rowsOf rootChanged rootRows
   rows-rooted =
-      let d′ = dofCountOf (rootChanged a locked p) in
-      map-map (entriesTo d′) (rootRow (rootMask a) locked) (a .rows)
-      ∙ of-rows a s (λ (row : Row). entriesTo d′ (rootRow (rootMask a) locked row)) (rerooted (rootMask a) locked) (λ row whole.
-      row-seen row whole (dofCountOf a) d′ (dof-count-le a) (dof-count-le (rootChanged a locked p)) (rootMask a) locked was-kind (k .kind) dofs-rooted)
+      let d′ = dofCountOf (rootChanged a root) in
+      map-map (entriesTo d′) (rootRow (rootMask a) (lockedBy root)) (a .rows)
+      ∙ of-rows a s (λ (row : Row). entriesTo d′ (rootRow (rootMask a) (lockedBy root) row)) (rerooted (rootMask a) (lockedBy root)) (λ row whole.
+      row-seen row whole (dofCountOf a) d′ (dof-count-le a) (dof-count-le (rootChanged a root)) (rootMask a) (lockedBy root) was-kind (kind-by root) dofs-rooted)
 
-  places-rooted : length (rootChanged a locked p .links) ≡ linkLimit
+  places-rooted : length (rootChanged a root .links) ≡ linkLimit
   unfolding rootChanged
-  places-rooted = length-modify (rootLink locked p) 0 (a .links) ∙ s .links
+  places-rooted = length-modify (rootLink root) 0 (a .links) ∙ s .links
 
 -- ---- two
 
-module _ (a b : Arm) (s : Sized a) (r : Sized b) (g : Agree a b) (locked : ℕ) (p : Pose) (k : Passed a locked) (l : Passed b locked) where
-  agree-rooted : Agree (rootChanged a locked p) (rootChanged b locked p)
+module _ (a b : Arm) (s : Sized a) (r : Sized b) (g : Agree a b) (root : Root) (k : Passed a) (l : Passed b) where
+  agree-rooted : Agree (rootChanged a root) (rootChanged b root)
   unfolding rootChanged couplingsOf
   agree-rooted = record {
     link-count = g .link-count;
     coupling-count = g .coupling-count;
-    links = links-rooted a s locked p k ∙ ap (modify (rootLink locked p) 0) (g .links) ∙ sym (links-rooted b r locked p l);
+    links = links-rooted a s root k ∙ ap (modify (rootLink root) 0) (g .links) ∙ sym (links-rooted b r root l);
     couplings = g .couplings;
     rows =
-        rows-rooted a s locked p k
-        ∙ ap₂ (λ (x : Link) (rows : List (List Float)). map (rerooted (x .joint .locked) locked) rows) (same-link a b g 0 (there a s locked p k)) (g .rows)
-        ∙ sym (rows-rooted b r locked p l);
+        rows-rooted a s root k
+        ∙ ap₂ (λ (x : Link) (rows : List (List Float)). map (rerooted (x .joint .locked) (lockedBy root)) rows) (same-link a b g 0 (there a s root k)) (g .rows)
+        ∙ sym (rows-rooted b r root l);
   }
 
-  pub workable-rooted : Workable (rootChanged a locked p) (rootChanged b locked p)
+  pub workable-rooted : Workable (rootChanged a root) (rootChanged b root)
   unfolding rootChanged
   workable-rooted =
-      workable a _ _ (k .arm) refl (parents-rooted a s locked p k) agree-rooted (places-rooted a s locked p k) (places-rooted b r locked p l)
+      workable a _ _ (k .arm) refl (parents-rooted a s root k) agree-rooted (places-rooted a s root k) (places-rooted b r root l)

@@ -1,6 +1,6 @@
 -- Every call on arms that agree up to their counts: the same refusal, the same lent memory, and arms that agree. Assumes nothing.
 use Prim.Native.Nat.{ℕ, _≤_}
-use mathlib.Core.Path.{_≡_, refl, sym, ap, subst, _∙_}
+use mathlib.Core.Path.{_≡_, refl, sym, ap, _∙_}
 use mathlib.Core.List.{List}
 use borrow.Author.Tests.{leb-true, ltb-true}
 use lib.Dec.{ltb}
@@ -11,7 +11,6 @@ use Rattle.limits.specs.Limits.{tableSize}
 use Rattle.refusal.specs.Refusal.{unlessOf}
 use Rattle.refusal.proofs.Laws.{none-of}
 use Rattle.refusal.proofs.Tests.{holds}
-use Rattle.planar.specs.declared.Pose.{Pose}
 use Rattle.topology.specs.declared.Split.{Split}
 use Rattle.topology.specs.Parents.{marks}
 use Rattle.arm.specs.declared.Arm.{Arm}
@@ -20,7 +19,7 @@ use Rattle.arm.specs.HandedIn.{armRefusal}
 use Rattle.arm.specs.Agree.{Agree}
 use Rattle.arm.proofs.Agree.{same-parents, same-mask-at, same-arm-refusal}
 use Rattle.kinematics.specs.State.{marked, only}
-use Rattle.full_working.specs.Outcome.{tablesFit, workedAll}
+use Rattle.full_working.specs.Outcome.{tablesFit}
 use Rattle.full_working.specs.Full.{fullRefusal, fullWorking}
 use Rattle.one_link_move.specs.declared.Change.{Change}
 use Rattle.one_link_move.specs.Move.{moveRefusal, linkMoved}
@@ -28,17 +27,16 @@ use Rattle.addition.specs.declared.NewLink.{NewLink}
 use Rattle.addition.specs.Addition.{addRefusal, linkAdded}
 use Rattle.addition.proofs.Tests.{passed}
 use Rattle.whole_step.specs.Step.{armAfter, stepRefusal, wholeStep}
-use Rattle.root_change.specs.Root.{isRootMask, rootRefusal, changedRoot}
-use Rattle.part_arm.specs.Places.{placesOf}
-use Rattle.part_arm.specs.Part.{partArm}
+use Rattle.root_change.specs.declared.Root.{Root}
+use Rattle.root_change.specs.Root.{rootRefusal, changedRoot}
 use Rattle.arm_split.specs.Answers.{splitRefusal, armSplit, partRefusal, armPart}
-use Rattle.agreement.specs.Respects.{Alike, Respects, AllRespect}
+use Rattle.agreement.specs.Respects.{Respects, AllRespect}
 use Rattle.agreement.proofs.Worked.{call-alike, workable, marked-alike, all-alike}
 use Rattle.agreement.proofs.Moved.{workable-moved}
 use Rattle.agreement.proofs.Added.{workable-added}
 use Rattle.agreement.proofs.Stepped.{agree-stepped, workable-stepped}
 use Rattle.agreement.proofs.Rooted.{Passed, workable-rooted}
-use Rattle.agreement.proofs.Parted.{part-same, same-worked}
+use Rattle.agreement.proofs.Parted.{part-same}
 
 -- the test of the tables
 fitting : (t : List Float) → unlessOf (tablesFit t) 1 ≡ 0 → tableSize ≤ length t
@@ -118,28 +116,25 @@ step-respects dt a b t s r g =
 
 -- ---- the root change
 
-root-refused : (a b : Arm) (t : List Float) (locked : ℕ) (p : Pose) → Agree a b → rootRefusal a t locked p ≡ rootRefusal b t locked p
+root-refused : (a b : Arm) (t : List Float) (root : Root) → Agree a b → rootRefusal a t root ≡ rootRefusal b t root
 unfolding rootRefusal
-root-refused a b t locked p g = cc (g .link-count, same-arm-refusal a b g)
+root-refused a b t root g = cc (g .link-count, same-arm-refusal a b g)
 
-root-passed : (a : Arm) (t : List Float) (locked : ℕ) (p : Pose) → rootRefusal a t locked p ≡ 0 → (tableSize ≤ length t) × Passed a locked
+root-passed : (a : Arm) (t : List Float) (root : Root) → rootRefusal a t root ≡ 0 → (tableSize ≤ length t) × Passed a
 unfolding rootRefusal
-root-passed a t locked p e =
+root-passed a t root e =
     let p₁ = none-of _ _ e in
     let p₄ = none-of _ _ (p₁ .1) in
-    let p₅ = none-of _ _ (p₄ .1) in
-    let p₈ = none-of _ _ (none-of _ _ (p₅ .1) .1) in (
-      fitting t (p₁ .0),
-      record { some = ltb-true 0 (a .«link_count») (holds (ltb 0 (a .«link_count»)) 3 (p₄ .0)); kind = holds (isRootMask locked) 4 (p₅ .0); arm = p₈ .1 },
-    )
+    let p₈ = none-of _ _ (none-of _ _ (p₄ .1) .1) in
+    (fitting t (p₁ .0), record { some = ltb-true 0 (a .«link_count») (holds (ltb 0 (a .«link_count»)) 3 (p₄ .0)); arm = p₈ .1 })
 
-pub root-respects : (locked : ℕ) (p : Pose) → Respects (λ a t. changedRoot a t locked p)
+pub root-respects : (root : Root) → Respects (λ a t. changedRoot a t root)
 unfolding changedRoot
-root-respects locked p a b t s r g =
-    call-alike a b t _ _ _ _ g (root-refused a b t locked p g) (λ e.
-    let k = root-passed a t locked p e in
-    let l = root-passed b t locked p (sym (root-refused a b t locked p g) ∙ e) in
-    all-alike a b _ _ t g (workable-rooted a b s r g locked p (k .1) (l .1)) (k .0))
+root-respects root a b t s r g =
+    call-alike a b t _ _ _ _ g (root-refused a b t root g) (λ e.
+    let k = root-passed a t root e in
+    let l = root-passed b t root (sym (root-refused a b t root g) ∙ e) in
+    all-alike a b _ _ t g (workable-rooted a b s r g root (k .1) (l .1)) (k .0))
 
 -- ---- the parts of a split
 
@@ -147,11 +142,9 @@ part-refused : (a b : Arm) (s : Split) (k : ℕ) (t : List Float) → Agree a b 
 unfolding partRefusal
 part-refused a b s k t g = cc (g .link-count, same-parents a b g, same-arm-refusal a b g)
 
-pub part-respects : (s : Split) (k : ℕ) → Respects (λ a t. armPart a s k t)
+pub part-alike : (s : Split) (k : ℕ) (t : List Float) (a b : Arm) → Sized a → Sized b → Agree a b → armPart a s k t ≡ armPart b s k t
 unfolding armPart
-part-respects s k a b t x y g =
-    call-alike a b t _ _ _ _ g (part-refused a b s k t g) (λ e.
-    subst (λ (new : Arm). Alike (workedAll a (partArm (placesOf a s k) a) t) (workedAll b new t)) (part-same a b x y g s k) (same-worked a b (partArm (placesOf a s k) a) t g))
+part-alike s k t a b x y g = rw (part-refused a b s k t g, part-same a b x y g s k)
 
 pub split-same : (s : Split) (m : List ℕ) (a b : Arm) → Agree a b → armSplit a s m ≡ armSplit b s m
 unfolding armSplit splitRefusal
@@ -166,6 +159,6 @@ all-respect = record {
   addition = addition-respects;
   step = step-respects;
   root = root-respects;
-  part = part-respects;
+  part = part-alike;
   split = split-same;
 }

@@ -17,7 +17,7 @@ use Rattle.arm.specs.declared.Arm.{Arm}
 use Rattle.arm.specs.Arm.{liveLinks, linksOf, couplingsOf, lockedOf, parentsOf, masksOf, dofCountOf, entriesTo, rowsOf, noLink, linkAt}
 use Rattle.arm.specs.HandedIn.{parentsEarlier, armRefusal}
 use Rattle.arm.specs.Agree.{Agree}
-use Rattle.arm.proofs.Accepted.{counts-accepted, parents-accepted}
+use Rattle.arm.proofs.Accepted.{accepted, counts-accepted}
 use Rattle.arm.proofs.Agree.{same-masks}
 use Rattle.kinematics.specs.State.{State, stateAfter, fineAfter, cleared, everyLink}
 use Rattle.kinematics.specs.Promises.{Fits}
@@ -105,7 +105,7 @@ workable a new new′ z n p g l l′ = record {
   places = l;
   places′ = l′;
   few = omega (arith, counts-accepted a z .0);
-  rising = ap parentsFit p ∙ parents-accepted a z;
+  rising = ap parentsFit p ∙ accepted a z .parents;
 }
 
 module _ (a b new new′ : Arm) (t : List Float) (g : Agree a b) (w : Workable new new′) (long : tableSize ≤ length t) where
