@@ -137,8 +137,8 @@ run-holds o h (c ∷ calls) = run-holds (called (o .answer .arm) (o .memory) c) 
 part-holds : (a : Arm) (t : List Float) → Held a t → (s : Split) (k : ℕ) (u : List Float) → armPart a s k u .answer .refusal ≡ 0 → Holds (armPart a s k u)
 unfolding armPart
 part-holds a t h s k u e = record {
-  shaped = call-shaped (partRefusal a s k u) a (partArm (placesOf a s k) a) u (h .shaped) (part-shaped a s k (h .shaped));
-  settled = of-part.settles a s k u (record { links = h .shaped .sized .links; couplings = h .shaped .sized .couplings }) e;
+  shaped = call-shaped (partRefusal a s k u) emptyArm (partArm (placesOf a s k) a) u blank-shaped (part-shaped a s k (h .shaped));
+  settled = of-part.settles a s k u (h .shaped .sized) e;
 }
 
 begins-hold : (o : Outcome) → Begins o → Holds o

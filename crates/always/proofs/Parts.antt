@@ -21,7 +21,6 @@ use Rattle.arm.specs.Arm.{liveLinks, entriesOf, noLink, linkAt, couplingAt}
 use Rattle.arm.proofs.Live.{dof-count-le}
 use Rattle.part_arm.specs.Places.{Places, placesOf}
 use Rattle.part_arm.specs.Part.{newLink, partLinks, partEntries, partRow, couplingStays, newCoupling, partCouplings, partArm}
-use Rattle.arm_split.specs.Words as of-parts
 use Rattle.arm_split.proofs.Picked.{chosen-at}
 use Rattle.arm_split.proofs.Passing.{links-few}
 use Rattle.arm_split.proofs.Theorems as of-part
@@ -60,7 +59,7 @@ part-shaped a s k w =
         couplings = length-laid (partCouplings p a) (emptyArm .couplings) (omega (arith, couplings-few p, blank-shaped .sized .couplings)) ∙ blank-shaped .sized .couplings;
         rows = length-map (a .rows) (partRow p a) ∙ w .sized .rows;
         entries = rows-sized a (w .sized) (partRow p a) (λ r e.
-            length-laid (partEntries p a (r .entries)) (blankRow .entries) (omega (arith, length-replicate dofLimit zero32, of-part.rows a s k parts-sized (r .entries) e, dof-count-le (partArm p a)))
+            length-laid (partEntries p a (r .entries)) (blankRow .entries) (omega (arith, length-replicate dofLimit zero32, of-part.rows a s k (w .sized) (r .entries) e, dof-count-le (partArm p a)))
             ∙ length-replicate dofLimit zero32);
       };
       three = λ j h.
@@ -71,6 +70,3 @@ part-shaped a s k w =
   where
     couplings-few : (p : Places) → length (partCouplings p a) ≤ couplingLimit
     couplings-few p = omega (arith, chosen-le (λ i. couplingStays p (couplingAt a i)) (λ i. newCoupling (p .number) (couplingAt a i)) (min (a .«coupling_count») couplingLimit))
-
-    parts-sized : of-parts.Sized a
-    parts-sized = record { links = w .sized .links; couplings = w .sized .couplings }
