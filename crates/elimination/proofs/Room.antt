@@ -12,7 +12,8 @@ use lib.Ieee.{Float}
 use Rattle.lists.proofs.Bools.{both-hold, both}
 use Rattle.limits.specs.Limits.{dofLimit}
 use Rattle.refusal.specs.Refusal.{lowest, lowerOf, unlessOf}
-use Rattle.elimination.specs.Elimination.{Factors, factors, factored, roomRefusal, overFront, factoredIn}
+use Rattle.elimination.specs.Elimination.{Factors, factors, factored}
+use Rattle.elimination.specs.Inner.{roomRefusal, overFront, factoredIn}
 
 -- for n above 0, n · n fits where n does into a share of n
 pub square-by : (n len : ℕ) → 0 < n → leb n (len / n) ≡ leb (n * n) len
