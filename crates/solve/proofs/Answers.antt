@@ -2,10 +2,10 @@
 use mathlib.Core.Path.{_≡_, refl, sym, ap, _∙_}
 use mathlib.Core.Bool.{Bool, true, false, _&&_, and-false}
 use mathlib.Core.List.{List, [], _∷_, _++_}
-use mathlib.Core.Logic.{inl, inr}
-use Prim.Native.Nat.{ℕ, _*_, _<_, _≤_}
+use Prim.Native.Nat.{ℕ, min, _*_, _<_, _≤_}
 use native.Mathlib.Nat.{zero-add}
 use native.Mathlib.Omega.{arith}
+use native.Mathlib.Decide.{decLt}
 use borrow.Author.Tests.{leb-true, le-leb, lt-leb, ne-eqb}
 use lib.Dec.{leb}
 use lib.ListN.{length, take, drop, replicate, length-append, length-drop, length-replicate}
@@ -14,7 +14,7 @@ use lib.Ieee.{Float, binary32, ofBits}
 use Rattle.lists.proofs.Bools.{both-hold}
 use Rattle.limits.specs.Limits.{dofLimit}
 use Rattle.refusal.specs.Refusal.{lowest, lowerOf, unlessOf}
-use Rattle.refusal.proofs.Laws.{is-lowest}
+use Rattle.refusal.proofs.Laws.{first-holds, rest-accepted}
 use Rattle.refusal.proofs.Tests.{holds}
 use Rattle.floats.specs.Floats.{allFinite}
 use Rattle.floats.specs.Inner.{overlaid, copiedPart}
@@ -175,37 +175,19 @@ buffer-room h = rw length-replicate (square-mono h)
 
 -- ---- rules 1, 2 and 7
 
-one-first : (c d : Bool) → lowest (1 ∷ unlessOf c 2 ∷ unlessOf d 7 ∷ []) ≡ 1
-unfolding lowerOf
-one-first true true = refl
-one-first true false = refl
-one-first false true = refl
-one-first false false = refl
-
-two-first : (d : Bool) → lowest (0 ∷ 2 ∷ unlessOf d 7 ∷ []) ≡ 2
+two-first : (d : Bool) → lowest (2 ∷ unlessOf d 7 ∷ []) ≡ 2
 unfolding lowerOf
 two-first true = refl
 two-first false = refl
 
-seven-first : (d : Bool) → lowest (0 ∷ 0 ∷ unlessOf d 7 ∷ []) ≡ unlessOf d 7
-unfolding lowerOf
-seven-first d = refl
-
-both-passed : (b c d : Bool) → lowest (unlessOf b 1 ∷ unlessOf c 2 ∷ unlessOf d 7 ∷ []) ≡ 0 → (b ≡ true) × (c ≡ true)
-both-passed b c d e =
-    let low = is-lowest (unlessOf b 1 ∷ unlessOf c 2 ∷ unlessOf d 7 ∷ []) in
-    (holds b 0 (low .none e (unlessOf b 1) (inl refl)), holds c 1 (low .none e (unlessOf c 2) (inr (inl refl))))
-
--- the code's tests: r of the room, f of the floats
-module _ (n : ℕ) (m b : List Float) (room : ℕ) (r : Bool) (er : r ≡ (leb (n * n) (length m) && leb n (length b) && leb n room)) where
-  pub refused-one : r ≡ false → 1 ≡ solveRefusal n m b room
-  refused-one h = sym (rw (← er, h) (one-first (leb n dofLimit) (allFinite (take (n * n) m) && allFinite (take n b))))
-
-  pub refused-two : r ≡ true → dofLimit < n → 2 ≡ solveRefusal n m b room
-  refused-two h g = sym (rw (← er, h, lt-leb n dofLimit g) (two-first (allFinite (take (n * n) m) && allFinite (take n b))))
-
-  pub refused-seven : r ≡ true → n ≤ dofLimit → unlessOf (allFinite (take (n * n) m) && allFinite (take n b)) 7 ≡ solveRefusal n m b room
-  refused-seven h g = sym (rw (← er, h, le-leb n dofLimit g) (seven-first (allFinite (take (n * n) m) && allFinite (take n b))))
+-- few is n cut to the limit: past it 2 is lower than 7
+pub refusal-is : (n few : ℕ) (m b : List Float) (room : ℕ) → few ≡ min n dofLimit
+    → lowest (unlessOf (leb (n * n) (length m) && leb n (length b) && leb n room) 1 ∷ unlessOf (leb n dofLimit) 2 ∷ unlessOf (allFinite (take (few * few) m) && allFinite (take few b)) 7 ∷ [])
+    ≡ solveRefusal n m b room
+refusal-is n few m b room e = elim (decLt dofLimit n) [
+  | yes l ↦ rw (lt-leb n dofLimit l, two-first (allFinite (take (few * few) m) && allFinite (take few b)), two-first (allFinite (take (n * n) m) && allFinite (take n b)))
+  | no l ↦ let z : few ≡ n = omega arith in rw z
+]
 
 -- ---- the solve, with k for its refusal
 module _ (n : ℕ) (m b x : List Float) (k : ℕ) (e : k ≡ solveRefusal n m b (length x)) where
@@ -215,6 +197,10 @@ module _ (n : ℕ) (m b x : List Float) (k : ℕ) (e : k ≡ solveRefusal n m b 
   pub solve-on : k ≤ 0 → solveAny n m b x ≡ solveOf n m b x
   solve-on h =
       let none : solveRefusal n m b (length x) ≡ 0 = omega arith in
-      let p = both-passed (leb (n * n) (length m) && leb n (length b) && leb n (length x)) (leb n dofLimit) (allFinite (take (n * n) m) && allFinite (take n b)) none in
+      let room = leb (n * n) (length m) && leb n (length b) && leb n (length x) in
+      let seven = unlessOf (allFinite (take (n * n) m) && allFinite (take n b)) 7 ∷ [] in
+      let rest = unlessOf (leb n dofLimit) 2 ∷ seven in
+      let roomy = first-holds room 0 rest none in
+      let few = first-holds (leb n dofLimit) 1 seven (rest-accepted (unlessOf room 1) rest none) in
       let o = solution n (take (n * n) m) (take n b) in
-      in-room n _ o x (p .0) (leb-true n dofLimit (p .1)) ∙ ap (λ (j : ℕ). into n j o x) (sym none)
+      in-room n room o x roomy (leb-true n dofLimit few) ∙ ap (λ (j : ℕ). into n j o x) (sym none)

@@ -6,6 +6,8 @@ use floats::copy;
 use floats::copy_part;
 use floats::is_finite_part;
 use limits::DOFS;
+use limits::fewer;
+use refusal::lowest;
 use refusal::unless;
 ghost use mathlib.Core.Path.{_≡_};
 ghost use Prim.Native.Nat.{_*_, _<_, _≤_};
@@ -211,19 +213,15 @@ pub fn solve_any(n: usize, matrix: &[f32], right: &[f32], result: &mut [f32]) ->
     solve_large(n, matrix, right, result)
 }
 
-// Rules 1, 2 and 7, over what is needed alone.
+// Rules 1, 2 and 7, over what is needed alone. Past the limit no float need be read: 2 is lower.
 fn refuse(n: usize, matrix: &[f32], right: &[f32], room: usize) -> u8
     ensures { λ r. ⌜ r ≡ solveRefusal n (now (matrix .entry)) (now (right .entry)) room ⌝ }
 {
+    let few = fewer(n, DOFS);
     let enough = square_fits(n, matrix.len()) & (n <= right.len()) & (n <= room);
-    if !enough {
-        return 1;
-    }
-    if DOFS < n {
-        return 2;
-    }
-    let finite = is_finite_part(matrix, 0, n * n) & is_finite_part(right, 0, n);
-    unless(finite, 7)
+    let finite = is_finite_part(matrix, 0, few * few) & is_finite_part(right, 0, few);
+    let refusals = [unless(enough, 1), unless(n <= DOFS, 2), unless(finite, 7)];
+    lowest(&refusals)
 }
 
 // The first n floats of `result` become the x with matrix · x = right, the matrix being n by n in rows.

@@ -40,7 +40,8 @@ returns-2 : tie.Need-returns-2
 returns-2 c =
     let s : tie.Start = search in
     let other : tie.Else1 = search in
-    cc (swapped-is (s .args .n) (s .args .p) (s .args .rows .now) (s .args .pivot .now) (s .pre .1) (s .pre .2) (s .args .k) (strictly (s .pre .0) (other .if1 .left)) (s .pre .4))
+    let a = s .args in
+    cc (swapped-is (a .n) (a .p) (a .rows .now) (a .pivot .now) (s .pre .1) (s .pre .2) (s .pre .3) (a .k) (strictly (s .pre .0) (other .if1 .left)) (s .pre .4))
 
 pub swap-rows-spec : {M : Type 1} → statement M
 swap-rows-spec =

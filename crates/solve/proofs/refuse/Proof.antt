@@ -1,35 +1,30 @@
--- `refuse`: each test is that of the definition, which gives the lowest of those that fail.
-use mathlib.Core.Path.{ap}
-use mathlib.Core.Bool.{Bool, _&&_}
+-- `refuse`: the same list of tests; past the limit the floats read are others, but 2 is lower.
 use native.Mathlib.Omega.{arith}
-use borrow.Author.Needs.{needs}
-use borrow.Author.Tests.{not-false, not-true}
-use lib.Dec.{leb}
-use lib.ListN.{length}
+use Prim.Native.Nat.{_≤_}
+use Rattle.limits.specs.Limits.{dofLimit}
 use Rattle.elimination.proofs.Rows.{square-mono}
-use Rattle.solve.proofs.Answers.{refused-one, refused-seven, refused-two}
+use Rattle.solve.proofs.Answers.{refusal-is}
+use borrow.Author.Needs.{needs}
 use Rattle.solve.proofs.refuse.Statement.{statement}
 use Rattle.solve.proofs.refuse.Tie as tie
+
+fewer-requires : tie.Need-fewer-requires
+fewer-requires c κs = search needs
 
 square-fits-requires : tie.Need-square-fits-requires
 square-fits-requires c κs = search needs
 
-returns : tie.Need-returns
-returns c =
-    let s : tie.Start = search in
-    let a = s .args in
-    let e = ap (λ (t : Bool). t && leb (a .n) (length (a .right .now)) && leb (a .n) (a .room)) (c .before .square-fits .ensures) in
-    refused-one (a .n) (a .matrix .now) (a .right .now) (a .room) _ e (not-true _ (c .if1 .taken))
+unless-requires : tie.Need-unless-requires
+unless-requires c κs = search needs
 
-returns-2 : tie.Need-returns-2
-returns-2 c =
-    let s : tie.Start = search in
-    let a = s .args in
-    let e = ap (λ (t : Bool). t && leb (a .n) (length (a .right .now)) && leb (a .n) (a .room)) (c .before .before .square-fits .ensures) in
-    refused-two (a .n) (a .matrix .now) (a .right .now) (a .room) _ e (not-false _ (c .before .if1 .left)) (c .if2 .taken)
+unless-requires-2 : tie.Need-unless-requires-2
+unless-requires-2 c κs = search needs
 
 mul-is-finite-part : tie.Need-mul-is-finite-part
-mul-is-finite-part c = omega (arith, square-mono (c .if2 .left))
+mul-is-finite-part c =
+    let cut : tie.After-fewer = search in
+    let few : cut .fewer .result ≤ dofLimit = omega (arith, cut .fewer .ensures) in
+    omega (arith, square-mono few)
 
 is-finite-part-requires : tie.Need-is-finite-part-requires
 is-finite-part-requires c κs = search needs
@@ -37,26 +32,33 @@ is-finite-part-requires c κs = search needs
 is-finite-part-requires-2 : tie.Need-is-finite-part-requires-2
 is-finite-part-requires-2 c κs = search needs
 
-unless-requires : tie.Need-unless-requires
-unless-requires c κs = search needs
+unless-requires-3 : tie.Need-unless-requires-3
+unless-requires-3 c κs = search needs
 
-returns-3 : tie.Need-returns-3
-returns-3 c =
+slice-aggregate-lowest : tie.Need-slice-aggregate-lowest
+slice-aggregate-lowest c = search needs
+
+lowest-requires : tie.Need-lowest-requires
+lowest-requires c κs = search needs
+
+returns : tie.Need-returns
+returns c =
     let s : tie.Start = search in
-    let few : tie.Else2 = search in
-    let a = s .args in
-    let e = ap (λ (t : Bool). t && leb (a .n) (length (a .right .now)) && leb (a .n) (a .room)) (few .before .before .square-fits .ensures) in
-    cc (refused-seven (a .n) (a .matrix .now) (a .right .now) (a .room) _ e (not-false _ (few .before .if1 .left)) (few .if2 .left))
+    let cut : tie.After-fewer = search in
+    cc (refusal-is (s .args .n) (cut .fewer .result) (s .args .matrix .now) (s .args .right .now) (s .args .room) (cut .fewer .ensures))
 
 pub refuse-spec : {M : Type 1} → statement M
 refuse-spec =
     tie.close
     (tie.spec
+    fewer-requires
     square-fits-requires
-    returns
-    returns-2
     mul-is-finite-part
     is-finite-part-requires
     is-finite-part-requires-2
     unless-requires
-    returns-3)
+    unless-requires-2
+    unless-requires-3
+    slice-aggregate-lowest
+    lowest-requires
+    returns)
