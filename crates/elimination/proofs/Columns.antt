@@ -76,8 +76,6 @@ module _ (n : ℕ) (a₀ a : List Float) (s : List ℕ) (whole f : Bool)
     cleared : (k : ℕ) → factors k z y ≡ trouble n k
     cleared k = rw (ez, ey, la, ls)
 
-    pub factored-singular : f ≡ true → factors 11 z y ≡ factored n a₀
-    factored-singular t = cleared 11 ∙ sym (found false true (left-false whole f h t) t)
-
-    pub factored-wild : f ≡ false → factors 12 z y ≡ factored n a₀
-    factored-wild t = cleared 12 ∙ sym (found whole false refl t)
+    pub factored-bad : (b : Bool) → f ≡ b → factors (cond b 11 12) z y ≡ factored n a₀
+    factored-bad true t = cleared 11 ∙ sym (found false true (left-false whole f h t) t)
+    factored-bad false t = cleared 12 ∙ sym (found whole false refl t)

@@ -1,6 +1,5 @@
 pub mod Columns
 pub mod Every
-pub mod Filled
 pub mod Pivot
 pub mod Reduced
 pub mod Room

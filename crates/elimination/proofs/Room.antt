@@ -12,7 +12,8 @@ use lib.Ieee.{Float}
 use Rattle.lists.proofs.Bools.{both-hold, both}
 use Rattle.limits.specs.Limits.{dofLimit}
 use Rattle.refusal.specs.Refusal.{lowest, lowerOf, unlessOf}
-use Rattle.elimination.specs.Elimination.{Factors, factors, factored, roomRefusal, overFront, factoredIn}
+use Rattle.elimination.specs.Elimination.{Factors, factors, factored}
+use Rattle.elimination.specs.Inner.{roomRefusal, overFront, factoredIn}
 
 -- for n above 0, n · n fits where n does into a share of n
 pub square-by : (n len : ℕ) → 0 < n → leb n (len / n) ≡ leb (n * n) len
@@ -24,25 +25,23 @@ square-by n len h = go (leb n (len / n)) refl
 
 -- ---- the refusals
 
-module _ (b c : Bool) where
-  abbrev pub oneTwo : ℕ
-  oneTwo = lowest (unlessOf b 1 ∷ unlessOf c 2 ∷ [])
-
-  pub one-given : b ≡ false → oneTwo ≡ 1
+module _ (n : ℕ) (room : Bool) where
+  pub room-short : room ≡ false → roomRefusal n room ≡ 1
   unfolding lowerOf
-  one-given h = rw h (go c)
+  room-short h = rw h (go (leb n dofLimit))
     where
       go : (d : Bool) → lowest (1 ∷ unlessOf d 2 ∷ []) ≡ 1
       go true = refl
       go false = refl
 
-  pub two-given : b ≡ true → c ≡ false → oneTwo ≡ 2
-  unfolding lowerOf
-  two-given h g = rw (h, g)
+  module _ (h : room ≡ true) where
+    pub room-large : dofLimit < n → roomRefusal n room ≡ 2
+    unfolding lowerOf
+    room-large g = rw (h, lt-leb n dofLimit g)
 
-  pub none-given : b ≡ true → c ≡ true → oneTwo ≡ 0
-  unfolding lowerOf
-  none-given h g = rw (h, g)
+    pub room-fits : n ≤ dofLimit → roomRefusal n room ≡ 0
+    unfolding lowerOf
+    room-fits g = rw (h, le-leb n dofLimit g)
 
 -- ---- a part from the start
 
@@ -53,21 +52,23 @@ module _ {A : Type 0} where
 -- ---- the factors in lent memory
 
 module _ (n : ℕ) (a : List Float) (s : List ℕ) where
-  answer-is : (k : ℕ) → roomRefusal n a s ≡ k → factoredIn n a s ≡ cond (eqb k 0) (overFront n (factored n (take (n * n) a)) a s) (factors k a s)
+  abbrev room : Bool
+  room = leb (n * n) (length a) && leb n (length s)
+
+  answer-is : (k : ℕ) → roomRefusal n room ≡ k → factoredIn n a s ≡ cond (eqb k 0) (overFront n (factored n (take (n * n) a)) a s) (factors k a s)
   unfolding factoredIn
   answer-is k e = ap (λ (j : ℕ). cond (eqb j 0) (overFront n (factored n (take (n * n) a)) a s) (factors j a s)) e
 
   pub factor-fits : n * n ≤ length a → n ≤ length s → n ≤ dofLimit → factoredIn n a s ≡ overFront n (factored n (take (n * n) a)) a s
-  factor-fits la ls l =
-      answer-is 0 (none-given (leb (n * n) (length a) && leb n (length s)) (leb n dofLimit) (both (le-leb (n * n) (length a) la) (le-leb n (length s) ls)) (le-leb n dofLimit l))
+  factor-fits la ls l = answer-is 0 (room-fits n room (both (le-leb (n * n) (length a) la) (le-leb n (length s) ls)) l)
 
   -- r is the code's test of the rows
   module _ (r : Bool) (er : r ≡ leb (n * n) (length a)) where
-    room-is : (b : Bool) → (r && leb n (length s)) ≡ b → (leb (n * n) (length a) && leb n (length s)) ≡ b
+    room-is : (b : Bool) → (r && leb n (length s)) ≡ b → room ≡ b
     room-is b h = ap (λ (t : Bool). t && leb n (length s)) (sym er) ∙ h
 
     pub factor-short : (r && leb n (length s)) ≡ false → factors 1 a s ≡ factoredIn n a s
-    factor-short h = sym (answer-is 1 (one-given (leb (n * n) (length a) && leb n (length s)) (leb n dofLimit) (room-is false h)))
+    factor-short h = sym (answer-is 1 (room-short n room (room-is false h)))
 
     module _ (h : (r && leb n (length s)) ≡ true) where
       pub room-rows : n * n ≤ length a
@@ -77,7 +78,7 @@ module _ (n : ℕ) (a : List Float) (s : List ℕ) where
       room-swaps = leb-true n (length s) (both-hold r _ h .1)
 
       pub factor-large : dofLimit < n → factors 2 a s ≡ factoredIn n a s
-      factor-large g = sym (answer-is 2 (two-given (leb (n * n) (length a) && leb n (length s)) (leb n dofLimit) (room-is true h) (lt-leb n dofLimit g)))
+      factor-large g = sym (answer-is 2 (room-large n room (room-is true h) g))
 
       pub factor-front : n ≤ dofLimit → (k : ℕ) (y : List Float) (z : List ℕ) → factors k y z ≡ factored n (take (n * n - 0) a)
           → factors k (y ++ drop (n * n - 0) a) (z ++ drop (n - 0) s) ≡ factoredIn n a s

@@ -1,27 +1,25 @@
 -- The factors of a matrix, by elimination. A matrix is n by n floats, row after row in one list.
-use mathlib.Core.Bool.{Bool, cond, _&&_}
+use mathlib.Core.Bool.{Bool, cond}
 use mathlib.Core.List.{List, [], _∷_, _++_}
 use Prim.Native.Nat.{ℕ, zero, suc, _+_, _-_, _*_}
-use lib.ListN.{length, take, drop, getD, replicate}
-use lib.Dec.{leb, eqb}
+use lib.ListN.{take, drop, getD, replicate}
 use lib.Ieee.{Float, nan, binary32, ofBits, sub, mul, div, neg, lt, eq}
-use Rattle.limits.specs.Limits.{dofLimit}
-use Rattle.refusal.specs.Refusal.{lowest, unlessOf}
+use Rattle.lists.specs.Lists.{part, withPart}
 use Rattle.floats.specs.Floats.{allFinite, zipTo}
 
 -- ---- rows
 
 -- row i
 abbrev pub row : ℕ → ℕ → List Float → List Float
-row n i a = take n (drop (i * n) a)
+row n i a = part (i * n) n a
 
 -- the entry in row i, column j
 abbrev pub entry : ℕ → ℕ → ℕ → List Float → Float
 entry n i j a = getD a (i * n + j) nan
 
 -- r for row i
-unfoldable pub withRow : ℕ → ℕ → List Float → List Float → List Float
-withRow n i r a = take (i * n) a ++ (r ++ drop (i * n + n) a)
+abbrev pub withRow : ℕ → ℕ → List Float → List Float → List Float
+withRow n i r a = withPart (i * n) n r a
 
 -- rows i and j swapped
 abbrev pub swapped : ℕ → ℕ → ℕ → List Float → List Float
@@ -94,17 +92,3 @@ columns n (suc c) k a s =
 
 abbrev pub factored : ℕ → List Float → Factors
 factored n a = columns n n 0 a []
-
--- ---- in lent memory: the factors go where the matrix was, and past what is needed nothing changes
-
--- 1: less than n by n floats and n swaps; 2: n above the limit
-abbrev pub roomRefusal : ℕ → List Float → List ℕ → ℕ
-roomRefusal n a s = lowest (unlessOf (leb (n * n) (length a) && leb n (length s)) 1 ∷ unlessOf (leb n dofLimit) 2 ∷ [])
-
-abbrev pub overFront : ℕ → Factors → List Float → List ℕ → Factors
-overFront n f a s = factors (f .refusal) (f .rows ++ drop (n * n) a) (f .swaps ++ drop n s)
-
-unfoldable pub factoredIn : ℕ → List Float → List ℕ → Factors
-factoredIn n a s =
-    let k = roomRefusal n a s in
-    cond (eqb k 0) (overFront n (factored n (take (n * n) a)) a s) (factors k a s)

@@ -1,6 +1,7 @@
 // The factors of a matrix, by elimination: n by n floats, row after row.
 use floats::all_finite;
-use floats::copy;
+use floats::copy_part;
+use floats::move_part;
 use limits::DOFS;
 ghost use mathlib.Core.Path.{_≡_};
 ghost use mathlib.Core.Bool.{cond};
@@ -10,7 +11,8 @@ ghost use lib.Dec.{leb};
 ghost use lib.Ieee.{binary32, ofBits};
 ghost use Rattle.limits.specs.Limits.{dofLimit};
 ghost use Rattle.floats.specs.Floats.{allFinite, zipTo};
-ghost use Rattle.elimination.specs.Elimination.{row, withRow, swapped, absolute, pivotRow, less, reducedRow, reduced, column, factors, trouble, factored, factoredIn};
+ghost use Rattle.elimination.specs.Elimination.{row, swapped, absolute, pivotRow, less, reducedRow, reduced, column, factors, trouble, factored};
+ghost use Rattle.elimination.specs.Inner.{factoredIn};
 
 fn absolute_value(x: f32) -> f32
     ensures { λ r. ⌜ r ≡ absolute x ⌝ }
@@ -77,40 +79,6 @@ fn reduce_below(n: usize, k: usize, rows: &mut [f32], pivot: &[f32])
     }
 }
 
-// Row i, read into `to`.
-fn load_row(n: usize, i: usize, rows: &[f32], to: &mut [f32])
-    requires { ⌜ (i * n + n ≤ length (now rows)) × (length (now to) ≡ n) ⌝ }
-    ensures { λ _. ⌜ now (to .exit) ≡ row n i (now (rows .entry)) ⌝ }
-{
-    let at = i * n;
-    let end = at + n;
-    copy(to, &rows[at..end]);
-}
-
-// Row i, written from `from`.
-fn store_row(n: usize, i: usize, rows: &mut [f32], from: &[f32])
-    requires { ⌜ (i * n + n ≤ length (now rows)) × (length (now from) ≡ n) ⌝ }
-    ensures { λ _. ⌜ now (rows .exit) ≡ withRow n i (now (from .entry)) (now (rows .entry)) ⌝ }
-{
-    let at = i * n;
-    let end = at + n;
-    copy(&mut rows[at..end], from);
-}
-
-// Row `from` copied over a later row.
-fn move_row(n: usize, from: usize, to: usize, rows: &mut [f32])
-    requires { ⌜ (from < to) × (to * n + n ≤ length (now rows)) ⌝ }
-    ensures { λ _. ⌜ now (rows .exit) ≡ withRow n to (row n from (now (rows .entry))) (now (rows .entry)) ⌝ }
-{
-    let source = from * n;
-    let at = to * n;
-    let mut j = 0;
-    while j < n {
-        rows[at + j] = rows[source + j];
-        j += 1;
-    }
-}
-
 // Rows k and p swapped, where `pivot` is row p already.
 fn swap_rows(n: usize, k: usize, p: usize, rows: &mut [f32], pivot: &[f32])
     requires { ⌜ (k ≤ p) × (p < n) × (length (now rows) ≡ n * n) × (length (now pivot) ≡ n) × (now pivot ≡ row n p (now rows)) ⌝ }
@@ -119,8 +87,8 @@ fn swap_rows(n: usize, k: usize, p: usize, rows: &mut [f32], pivot: &[f32])
     if p == k {
         return;
     }
-    move_row(n, k, p, rows);
-    store_row(n, k, rows, pivot);
+    move_part(rows, k * n, p * n, n);
+    copy_part(rows, k * n, pivot, 0, n);
 }
 
 // Column k, with its pivot in row p.
@@ -128,7 +96,7 @@ fn eliminate_column(n: usize, k: usize, p: usize, rows: &mut [f32], pivot: &mut 
     requires { ⌜ (k ≤ p) × (p < n) × (length (now rows) ≡ n * n) × (length (now pivot) ≡ n) ⌝ }
     ensures { λ _. ⌜ now (rows .exit) ≡ column n k p (now (rows .entry)) ⌝ }
 {
-    load_row(n, p, rows, pivot);
+    copy_part(pivot, 0, rows, p * n, n);
     swap_rows(n, k, p, rows, pivot);
     reduce_below(n, k, rows, pivot);
 }

@@ -6,10 +6,10 @@ use native.Mathlib.Numerals.{add-one}
 use native.Mathlib.Nat.{sub-zero, mul-le-mul-right}
 use native.Mathlib.Omega.{arith}
 use lib.ListN.{length, take, drop, getD, set, drop-of-length-le, length-drop}
-use lib.Seq.{drop-cons, drop-drop, take-nil, take-take, take-all}
+use lib.Seq.{drop-cons, drop-drop, take-nil, take-take, take-all, length-take-le}
 use lib.Ieee.{Float, nan, binary32, div}
 use Rattle.elimination.specs.Elimination.{row, entry, less}
-use Rattle.elimination.proofs.Rows.{next, part-length}
+use Rattle.elimination.proofs.Rows.{next}
 use Rattle.solve.specs.Solve.{exchanged, permuted, lessProducts, forward, backward}
 
 -- ---- the swaps
@@ -58,7 +58,10 @@ module _ (n : ℕ) (a : List Float) (i : ℕ) (x : List Float) where
 
 -- the code's parts of a row and of x are as long
 pub same-parts : {A B : Type 0} (m i k j : ℕ) (a : List A) (x : List B) → i + m ≤ length a → j + k ≤ length x → m ≡ k → length (take m (drop i a)) ≡ length (take k (drop j x))
-same-parts m i k j a x h g e = part-length m i a h ∙ e ∙ sym (part-length k j x g)
+same-parts m i k j a x h g e = long m i a h ∙ e ∙ sym (long k j x g)
+  where
+    long : {A : Type 0} (m i : ℕ) (a : List A) → i + m ≤ length a → length (take m (drop i a)) ≡ m
+    long m i a h = length-take-le m (drop i a) (rw length-drop (omega arith))
 
 -- ---- back
 
@@ -73,8 +76,8 @@ drop-take (suc m) (suc k) (x ∷ xs) =
     rw e (drop-take m k xs)
 
 -- the row that ends at i · n
-pub row-end : (i n : ℕ) → 0 < i → i ≤ n → (n ≤ i * n) × (i * n ≤ n * n)
-row-end i n h g = (omega (arith, mul-le-mul-right n h), mul-le-mul-right n g)
+pub row-end : {i n : ℕ} → 0 < i → i ≤ n → (n ≤ i * n) × (i * n ≤ n * n)
+row-end {i} {n} h g = (omega (arith, mul-le-mul-right n h), mul-le-mul-right n g)
 
 -- the row before it ends n earlier
 pub row-before : (i n end : ℕ) → 0 < i → end ≡ i * n → end - n ≡ (i - 1) * n
@@ -103,7 +106,7 @@ module _ (n : ℕ) (a : List Float) where
       let e : i ≡ suc (i - 1) = omega arith in
       let m : (i - 1) + 1 ≡ i = omega arith in
       let q : end - n ≡ (i - 1) * n = row-before i n end h ee in
-      let w : end - ((i - 1) * n + i) ≡ n - i = omega (arith, q, row-end i n h g) in
+      let w : end - ((i - 1) * n + i) ≡ n - i = omega (arith, q, row-end h g) in
       let d : drop i (row n (i - 1) a) ≡ take (n - i) (drop ((i - 1) * n + i) a) = drop-take i n (drop ((i - 1) * n) a) ∙ ap (take (n - i)) (drop-drop i ((i - 1) * n) a) in
       let r : length (drop i x) ≤ n - i = simp length-drop (omega arith) in
       let t : take (n - i) (drop i x) ≡ drop i x = take-all (n - i) (drop i x) r in

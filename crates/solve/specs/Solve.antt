@@ -81,10 +81,3 @@ solveRefusal n a b room =
 
 abbrev pub solveOf : ℕ → List Float → List Float → List Float → Answer
 solveOf n a b x = into n (solveRefusal n a b (length x)) (solution n (take (n * n) a) (take n b)) x
-
--- 1: factors, swaps, right side or result shorter than needed; 2: n above the limit
-abbrev pub substituteRefusal : ℕ → List Float → List ℕ → List Float → ℕ → ℕ
-substituteRefusal n a s b room = lowest (unlessOf (leb (n * n) (length a) && leb n (length s) && leb n (length b) && leb n room) 1 ∷ unlessOf (leb n dofLimit) 2 ∷ [])
-
-abbrev pub substituteOf : ℕ → List Float → List ℕ → List Float → List Float → Answer
-substituteOf n a s b x = into n (substituteRefusal n a s b (length x)) (substituted n (take (n * n) a) (take n s) (take n b)) x

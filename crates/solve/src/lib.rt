@@ -3,14 +3,19 @@ use elimination::factor;
 use elimination::square_fits;
 use floats::all_finite;
 use floats::copy;
+use floats::copy_part;
+use floats::is_finite_part;
 use limits::DOFS;
+use limits::fewer;
+use refusal::lowest;
 use refusal::unless;
 ghost use mathlib.Core.Path.{_≡_};
 ghost use Prim.Native.Nat.{_*_, _<_, _≤_};
 ghost use lib.ListN.{length, take};
 ghost use Rattle.limits.specs.Limits.{dofLimit};
 ghost use Rattle.solve.specs.Buffers.{smallSize};
-ghost use Rattle.solve.specs.Solve.{exchanged, permuted, lessProducts, forward, backward, answer, substituted, solution, into, solveRefusal, solveOf, substituteOf};
+ghost use Rattle.solve.specs.Solve.{exchanged, permuted, lessProducts, forward, backward, answer, substituted, solution, into, solveRefusal, solveOf};
+ghost use Rattle.solve.specs.Inner.{substituteOf, solveAny};
 
 // A small matrix is worked in a small buffer: to clear the largest would cost more than to solve it.
 const SMALL: usize = 12;
@@ -94,6 +99,26 @@ fn unknowns(n: usize, factors: &[f32], swaps: &[usize], right: &[f32], x: &mut [
     substitute_backward(n, factors, x);
 }
 
+// The unknowns, worked out in x, go into `result` unless one isn't finite.
+fn substitute_in(
+    n: usize,
+    factors: &[f32],
+    swaps: &[usize],
+    right: &[f32],
+    x: &mut [f32],
+    result: &mut [f32],
+) -> u8
+    requires { ⌜ (length (now factors) ≡ n * n) × (length (now swaps) ≡ n) × (length (now right) ≡ n) × (length (now x) ≡ n) × (n ≤ length (now result)) ⌝ }
+    ensures { λ r. ⌜ answer r (now (result .exit)) ≡ into n 0 (substituted n (now (factors .entry)) (now (swaps .entry)) (now (right .entry))) (now (result .entry)) ⌝ }
+{
+    unknowns(n, factors, swaps, right, x);
+    let refusal = unless(all_finite(x), 12);
+    if refusal == 0 {
+        copy(result, x);
+    }
+    refusal
+}
+
 // The solution by factors and swaps of just the needed length.
 fn substitute_whole(
     n: usize,
@@ -106,12 +131,7 @@ fn substitute_whole(
     ensures { λ r. ⌜ answer r (now (result .exit)) ≡ into n 0 (substituted n (now (factors .entry)) (now (swaps .entry)) (now (right .entry))) (now (result .entry)) ⌝ }
 {
     let mut x = [0.0f32; DOFS];
-    unknowns(n, factors, swaps, right, &mut x[0..n]);
-    let refusal = unless(all_finite(&x[0..n]), 12);
-    if refusal == 0 {
-        copy(result, &x[0..n]);
-    }
-    refusal
+    substitute_in(n, factors, swaps, right, &mut x[0..n], result)
 }
 
 // The solution for one right side, by the factors and swaps that `factor` made.
@@ -150,8 +170,7 @@ fn solve_in(
     requires { ⌜ (n ≤ dofLimit) × (n * n ≤ length (now matrix)) × (n ≤ length (now right)) × (n ≤ length (now result)) × (n * n ≤ length (now rows)) × (n ≤ length (now swaps)) ⌝ }
     ensures { λ r. ⌜ answer r (now (result .exit)) ≡ into n 0 (solution n (take (n * n) (now (matrix .entry))) (take n (now (right .entry)))) (now (result .entry)) ⌝ }
 {
-    let nn = n * n;
-    copy(rows, &matrix[0..nn]);
+    copy_part(rows, 0, matrix, 0, n * n);
     let trouble = factor(n, rows, swaps);
     if 0 < trouble {
         return trouble;
@@ -177,20 +196,32 @@ fn solve_large(n: usize, matrix: &[f32], right: &[f32], result: &mut [f32]) -> u
     solve_in(n, matrix, right, result, &mut rows, &mut swaps)
 }
 
-// Rules 1, 2 and 7, over what is needed alone.
-fn refuse(n: usize, matrix: &[f32], right: &[f32], room: usize) -> u8
-    ensures { λ r. ⌜ r ≡ solveRefusal n (now (matrix .entry)) (now (right .entry)) room ⌝ }
+// The solve of any floats: rule 7 isn't tested. What isn't finite gives 12, where the matrix's own 11 or 12 isn't met first.
+pub fn solve_any(n: usize, matrix: &[f32], right: &[f32], result: &mut [f32]) -> u8
+    ensures { λ r. ⌜ answer r (now (result .exit)) ≡ solveAny n (now (matrix .entry)) (now (right .entry)) (now (result .entry)) ⌝ }
 {
-    let enough = square_fits(n, matrix.len()) & (n <= right.len()) & (n <= room);
-    if !enough {
+    let room = square_fits(n, matrix.len()) & (n <= right.len()) & (n <= result.len());
+    if !room {
         return 1;
     }
     if DOFS < n {
         return 2;
     }
-    let nn = n * n;
-    let finite = all_finite(&matrix[0..nn]) & all_finite(&right[0..n]);
-    unless(finite, 7)
+    if n <= SMALL {
+        return solve_small(n, matrix, right, result);
+    }
+    solve_large(n, matrix, right, result)
+}
+
+// Rules 1, 2 and 7, over what is needed alone. Past the limit no float need be read: 2 is lower.
+fn refuse(n: usize, matrix: &[f32], right: &[f32], room: usize) -> u8
+    ensures { λ r. ⌜ r ≡ solveRefusal n (now (matrix .entry)) (now (right .entry)) room ⌝ }
+{
+    let few = fewer(n, DOFS);
+    let enough = square_fits(n, matrix.len()) & (n <= right.len()) & (n <= room);
+    let finite = is_finite_part(matrix, 0, few * few) & is_finite_part(right, 0, few);
+    let refusals = [unless(enough, 1), unless(n <= DOFS, 2), unless(finite, 7)];
+    lowest(&refusals)
 }
 
 // The first n floats of `result` become the x with matrix · x = right, the matrix being n by n in rows.
@@ -201,8 +232,5 @@ pub fn solve(n: usize, matrix: &[f32], right: &[f32], result: &mut [f32]) -> u8
     if 0 < refusal {
         return refusal;
     }
-    if n <= SMALL {
-        return solve_small(n, matrix, right, result);
-    }
-    solve_large(n, matrix, right, result)
+    solve_any(n, matrix, right, result)
 }

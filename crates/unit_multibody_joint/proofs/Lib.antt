@@ -1,5 +1,4 @@
-pub mod Parts
-pub mod Solved
+pub mod Rows
 pub mod Answers
 pub mod Accepted
 pub mod Theorems

@@ -1,8 +1,8 @@
--- What the two rows refuse before they are worked out: the lowest of one list, a row's own tests and then those of the arm handed in.
+-- What the two rows refuse before they are worked out: the lowest of one list, a row's own tests and what refuses the arm handed in.
 use Prim.Native.Nat.{ℕ, _*_}
 use mathlib.Core.Bool.{Bool, not, _&&_}
 use mathlib.Core.List.{List, [], _∷_}
-use lib.Dec.{leb, ltb}
+use lib.Dec.{leb}
 use lib.ListN.{length, take, getD}
 use lib.Ieee.{Float, lt}
 use Rattle.refusal.specs.Refusal.{unlessOf, lowest}
@@ -11,9 +11,9 @@ use Rattle.masks.specs.Masks.{isAxis, isFree}
 use Rattle.arm.specs.declared.Arm.{Arm}
 use Rattle.arm.specs.declared.RowName.{RowName}
 use Rattle.arm.specs.declared.RowName.the-variants.{Frictions}
-use Rattle.arm.specs.Arm.{maskAt, dofCountOf, rowNumber, rowsOf}
+use Rattle.arm.specs.Arm.{isLink, maskAt, dofCountOf, rowNumber, rowsOf}
 use Rattle.arm.specs.Edits.{dofAt}
-use Rattle.arm.specs.HandedIn.{armEntries}
+use Rattle.arm.specs.HandedIn.{armRefusal}
 use Rattle.unit_multibody_joint.specs.declared.Limits.{Limits}
 
 -- ---- what is needed: n by n floats of the mass matrix and n of each memory, n being the DoF count
@@ -29,12 +29,13 @@ massFinite n mass = allFinite (take (n * n) mass)
 abbrev pub rowEntries : Arm → ℕ → ℕ → Bool → Bool → List Float → ℕ → ℕ → List ℕ
 rowEntries a link axis fine ordered mass j wj =
     unlessOf (memoryFits (dofCountOf a) mass j wj) 1
-    ∷ unlessOf (ltb link (a .«link_count»)) 4
+    ∷ unlessOf (isLink a link) 4
     ∷ unlessOf (isAxis axis) 5
     ∷ unlessOf (isFree (maskAt a link) axis) 6
     ∷ unlessOf (fine && massFinite (dofCountOf a) mass) 7
     ∷ unlessOf ordered 10
-    ∷ armEntries a
+    ∷ armRefusal a
+    ∷ []
 
 unfoldable pub rowRefusal : Arm → ℕ → ℕ → Bool → Bool → List Float → ℕ → ℕ → ℕ
 rowRefusal a link axis fine ordered mass j wj = lowest (rowEntries a link axis fine ordered mass j wj)
@@ -48,9 +49,6 @@ limitsFinite g =
 abbrev pub limitsOrdered : Limits → Bool
 limitsOrdered g = not (lt (g .max) (g .min))
 
-unfoldable pub limitRefusal : Arm → ℕ → ℕ → Limits → List Float → ℕ → ℕ → ℕ
-limitRefusal a link axis g mass j wj = rowRefusal a link axis (limitsFinite g) (limitsOrdered g) mass j wj
-
 -- ---- the friction row; 10: friction·dt below zero
 
 -- a row's entries, up to the DoF count
@@ -63,7 +61,3 @@ frictionAt a link axis = entryOf (rowUpTo a Frictions) (dofAt a link axis)
 
 abbrev pub frictionOrdered : Arm → ℕ → ℕ → Float → Bool
 frictionOrdered a link axis dt = not (lt (times (frictionAt a link axis) dt) zero32)
-
-unfoldable pub frictionRefusal : Arm → ℕ → ℕ → Float → Float → List Float → ℕ → ℕ → ℕ
-frictionRefusal a link axis dt cfm mass j wj =
-    rowRefusal a link axis (isFinite dt && isFinite cfm) (frictionOrdered a link axis dt) mass j wj

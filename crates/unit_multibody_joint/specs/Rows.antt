@@ -1,16 +1,14 @@
--- Constraint rows of one degree of freedom, by document 01's 'Constraint rows'.
-use Prim.Native.Nat.{ℕ, _*_}
+-- Constraint rows, by document 01's 'Constraint rows': bounds and right side, the row of any J, and J of one degree of freedom.
+use Prim.Native.Nat.{ℕ}
 use mathlib.Core.Bool.{Bool, cond, _&&_}
 use mathlib.Core.List.{List}
-use lib.ListN.{take, getD, set, replicate}
+use lib.ListN.{getD, set, replicate}
 use lib.Ieee.{Float, nan, lt, eq, neg}
-use Rattle.refusal.specs.Refusal.{unlessOf}
 use Rattle.floats.specs.Floats.{f32, zero32, one32, plus, minus, times, over, isFinite}
-use Rattle.solve.specs.Solve.{solution}
 use Rattle.unit_multibody_joint.specs.declared.Limits.{Limits}
 use Rattle.unit_multibody_joint.specs.declared.Bounds.{Bounds}
 use Rattle.unit_multibody_joint.specs.declared.ConstraintRow.{ConstraintRow}
-use Rattle.unit_multibody_joint.specs.Outcome.{Outcome, orThen, answered}
+use Rattle.unit_multibody_joint.specs.Outcome.{Outcome, solvedAnswer}
 
 -- ---- bounds and right side
 
@@ -77,13 +75,13 @@ finiteRow r = isFinite (r .lower) && isFinite (r .upper) && isFinite (r .rhs) &&
 
 -- ---- with J and WJ
 
--- J: 1 at the DoF, zero elsewhere
+-- the row of any J, where lhs is what it reads off WJ
+unfoldable pub rowAnswer : Bounds → Float → (List Float → Float) → ℕ → ℕ → List Float → List Float → List Float → List Float → Outcome ConstraintRow
+rowAnswer b cfm lhs = solvedAnswer refusedRow finiteRow (λ w. rowOf b cfm (lhs w))
+
+-- of one degree of freedom: J is 1 at the DoF, zero elsewhere; lhs = WJ at the DoF
 unfoldable pub unitRow : ℕ → ℕ → List Float
 unitRow n dof = set (replicate n zero32) dof one32
 
--- WJ solves M·WJ = J, and lhs = WJ at the DoF. After the refusal k: the solve's own 11 or 12, then 12 if a result isn't finite
-unfoldable pub rowAnswer : ℕ → ℕ → ℕ → Bounds → Float → List Float → List Float → List Float → Outcome ConstraintRow
-rowAnswer k n dof b cfm mass j wj =
-    let o = solution n (take (n * n) mass) (unitRow n dof) in
-    let r = rowOf b cfm (getD (o .result) dof nan) in
-    answered (orThen k (orThen (o .refusal) (unlessOf (finiteRow r) 12))) refusedRow r (unitRow n dof) (o .result) j wj
+unfoldable pub lhsAt : ℕ → List Float → Float
+lhsAt dof w = getD w dof nan

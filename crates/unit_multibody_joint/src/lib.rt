@@ -2,17 +2,13 @@
 // is tested, and the lowest refusal of all is given. A refusal leaves all lent memory as it was.
 ghost use mathlib.Core.Path.{_≡_};
 ghost use Prim.Native.Nat.{min, _*_, _<_, _≤_};
-ghost use mathlib.Core.Bool.{true};
-ghost use lib.ListN.{length, take, drop};
-ghost use Rattle.floats.specs.Floats.{allFinite, entryOf};
-ghost use Rattle.arm.specs.Arm.{entriesTo};
+ghost use lib.ListN.{length};
 ghost use Rattle.limits.specs.Limits.{dofLimit};
 ghost use Rattle.unit_multibody_joint.specs.Outcome.{out};
-ghost use Rattle.unit_multibody_joint.specs.Rows.{positive, lowerBound, upperBound, limitBounds, frictionBounds, inverse, rowOf, refusedRow, finiteRow, rowAnswer};
-ghost use Rattle.unit_multibody_joint.specs.Refusals.{memoryFits, frictionAt, limitsFinite, rowRefusal, limitRefusal, frictionRefusal};
-ghost use Rattle.unit_multibody_joint.specs.Answers.{limitAnswer, frictionAnswer};
+ghost use Rattle.unit_multibody_joint.specs.Rows.{positive, lowerBound, upperBound, limitBounds, frictionBounds, inverse, rowOf, refusedRow, finiteRow, rowAnswer, lhsAt};
+ghost use Rattle.unit_multibody_joint.specs.Refusals.{memoryFits, frictionAt, limitsFinite, rowRefusal};
+ghost use Rattle.unit_multibody_joint.specs.Answers.{axisAnswer, limitAnswer, frictionAnswer};
 use arm::Arm;
-use arm::Row;
 use arm::RowName;
 use arm::arm_refusal;
 use arm::dof_at;
@@ -20,17 +16,17 @@ use arm::dof_count;
 use arm::mask_at;
 use arm::row_number;
 use elimination::square_fits;
-use floats::all_finite;
 use floats::copy;
+use floats::copy_part;
 use floats::entry;
 use floats::finite;
+use floats::is_finite_part;
 use limits::DOFS;
-use limits::fewer;
 use masks::is_axis;
 use masks::is_free;
-use refusal::lower;
+use refusal::lowest;
 use refusal::unless;
-use solve::solve;
+use solve::solve_any;
 
 // The greatest finite f32 either way: a bound that bounds nothing.
 const MAX: f32 = 340282350000000000000000000000000000000.0;
@@ -125,7 +121,8 @@ fn inv(x: f32) -> f32
     if x == 0.0 { 0.0 } else { 1.0 / x }
 }
 
-fn row_of(b: Bounds, cfm_coeff: f32, lhs: f32) -> ConstraintRow
+// The row of these bounds and gains.
+pub fn row_of(b: Bounds, cfm_coeff: f32, lhs: f32) -> ConstraintRow
     ensures { λ r. ⌜ r ≡ rowOf b «cfm_coeff» lhs ⌝ }
 {
     let cfm_gain = lhs * cfm_coeff;
@@ -139,7 +136,8 @@ fn row_of(b: Bounds, cfm_coeff: f32, lhs: f32) -> ConstraintRow
     }
 }
 
-fn refused_row(refusal: u8) -> ConstraintRow
+// The row that a refusal gives: the number, and zeros.
+pub fn refused_row(refusal: u8) -> ConstraintRow
     ensures { λ r. ⌜ r ≡ refusedRow refusal ⌝ }
 {
     ConstraintRow {
@@ -152,15 +150,16 @@ fn refused_row(refusal: u8) -> ConstraintRow
     }
 }
 
-fn is_finite_row(r: ConstraintRow) -> bool
+// Are the values of a row finite?
+pub fn is_finite_row(r: ConstraintRow) -> bool
     ensures { λ b. ⌜ b ≡ finiteRow r ⌝ }
 {
     finite(r.lower) & finite(r.upper) & finite(r.rhs) & finite(r.cfm_gain) & finite(r.inv_lhs)
 }
 
-// The row of the DoF `at`, once no test refuses it. J and WJ are worked out beside the lent memory: a result may still be refused.
+// The row of any J, whose lhs stands in WJ at `at`, once no test refuses it. WJ is worked out beside the lent memory: a result may still be refused.
 fn constrain(
-    n: usize,
+    row: &[f32],
     at: usize,
     b: Bounds,
     cfm_coeff: f32,
@@ -168,35 +167,25 @@ fn constrain(
     j: &mut [f32],
     wj: &mut [f32],
 ) -> ConstraintRow
-    requires { ⌜ (n ≤ dofLimit) × (at < n) × (n * n ≤ length (now mass)) × (allFinite (take (n * n) (now mass)) ≡ true) × (n ≤ length (now j)) × (n ≤ length (now wj)) ⌝ }
-    ensures { λ r. ⌜ out r (now (j .exit)) (now (wj .exit)) ≡ rowAnswer 0 n at b «cfm_coeff» (now (mass .entry)) (now (j .entry)) (now (wj .entry)) ⌝ }
+    requires { ⌜ (length (now row) ≤ dofLimit) × (at < length (now row)) × (length (now row) * length (now row) ≤ length (now mass)) × (length (now row) ≤ length (now j)) × (length (now row) ≤ length (now wj)) ⌝ }
+    ensures { λ r. ⌜ out r (now (j .exit)) (now (wj .exit)) ≡ rowAnswer b «cfm_coeff» (lhsAt at) 0 (length (now (row .entry))) (now (row .entry)) (now (mass .entry)) (now (j .entry)) (now (wj .entry)) ⌝ }
 {
-    let mut unit = [0.0f32; DOFS];
-    unit[at] = 1.0;
+    let n = row.len();
     let mut solved = [0.0f32; DOFS];
-    let trouble = solve(n, mass, &unit, &mut solved);
+    let trouble = solve_any(n, mass, row, &mut solved);
     if trouble != 0 {
         return refused_row(trouble);
     }
-    let row = row_of(b, cfm_coeff, solved[at]);
-    if !is_finite_row(row) {
+    let made = row_of(b, cfm_coeff, solved[at]);
+    if !is_finite_row(made) {
         return refused_row(12);
     }
-    copy(j, &unit[0..n]);
-    copy(wj, &solved[0..n]);
-    row
+    copy(j, row);
+    copy_part(wj, 0, &solved, 0, n);
+    made
 }
 
 // ---- Refusals
-
-// Are the n floats from `at` on finite, as many of them as there are?
-pub fn is_finite_part(s: &[f32], at: usize, n: usize) -> bool
-    ensures { λ r. ⌜ r ≡ allFinite (take n (drop at (now (s .entry)))) ⌝ }
-{
-    let start = fewer(at, s.len());
-    let end = start + fewer(n, s.len() - start);
-    all_finite(&s[start..end])
-}
 
 // Have the mass matrix and the two memories their needed lengths?
 pub fn memory_fits(n: usize, mass: &[f32], j_room: usize, wj_room: usize) -> bool
@@ -237,58 +226,17 @@ fn row_refusal(
     ensures { λ r. ⌜ r ≡ rowRefusal arm link axis fine ordered (now (mass .entry)) «j_room» «wj_room» ⌝ }
 {
     let n = dof_count(arm);
-    let nn = n * n;
-    let room = memory_fits(n, mass, j_room, wj_room);
     let mask = mask_at(arm, link as usize);
-    lower(
-        unless(room, 1),
-        lower(
-            unless((link as usize) < arm.link_count, 4),
-            lower(
-                unless(is_axis(axis), 5),
-                lower(
-                    unless(is_free(mask, axis_byte(axis)), 6),
-                    lower(
-                        unless(fine & is_finite_part(mass, 0, nn), 7),
-                        lower(unless(ordered, 10), arm_refusal(arm)),
-                    ),
-                ),
-            ),
-        ),
-    )
-}
-
-fn limit_refusal(
-    arm: Arm,
-    link: u32,
-    axis: u32,
-    given: Limits,
-    mass: &[f32],
-    j_room: usize,
-    wj_room: usize,
-) -> u8
-    ensures { λ r. ⌜ r ≡ limitRefusal arm link axis given (now (mass .entry)) «j_room» «wj_room» ⌝ }
-{
-    let ordered = !(given.max < given.min);
-    row_refusal(
-        arm,
-        link,
-        axis,
-        are_finite_limits(given),
-        ordered,
-        mass,
-        j_room,
-        wj_room,
-    )
-}
-
-// What stands at `at` among the first n entries of a row, and +0 past them.
-fn row_entry(row: Row, n: usize, at: usize) -> f32
-    requires { ⌜ n ≤ dofLimit ⌝ }
-    ensures { λ r. ⌜ r ≡ entryOf (entriesTo n row) at ⌝ }
-{
-    let entries = row.entries;
-    entry(&entries[0..n], at)
+    let refusals = [
+        unless(memory_fits(n, mass, j_room, wj_room), 1),
+        unless((link as usize) < arm.link_count, 4),
+        unless(is_axis(axis), 5),
+        unless(is_free(mask, axis_byte(axis)), 6),
+        unless(fine & is_finite_part(mass, 0, n * n), 7),
+        unless(ordered, 10),
+        arm_refusal(arm),
+    ];
+    lowest(&refusals)
 }
 
 // The friction of a link's axis; +0 where the arm has no such DoF.
@@ -297,28 +245,39 @@ fn friction_at(arm: Arm, link: u32, axis: u32) -> f32
 {
     let k = row_number(RowName::Frictions);
     let row = arm.rows[k];
+    let entries = row.entries;
+    let n = dof_count(arm);
     let at = dof_at(arm, link as usize, axis_byte(axis));
-    row_entry(row, dof_count(arm), at)
-}
-
-fn friction_refusal(
-    arm: Arm,
-    link: u32,
-    axis: u32,
-    dt: f32,
-    cfm_coeff: f32,
-    mass: &[f32],
-    j_room: usize,
-    wj_room: usize,
-) -> u8
-    ensures { λ r. ⌜ r ≡ frictionRefusal arm link axis dt «cfm_coeff» (now (mass .entry)) «j_room» «wj_room» ⌝ }
-{
-    let fine = finite(dt) & finite(cfm_coeff);
-    let ordered = !(friction_at(arm, link, axis) * dt < 0.0);
-    row_refusal(arm, link, axis, fine, ordered, mass, j_room, wj_room)
+    entry(&entries[0..n], at)
 }
 
 // ---- The two rows
+
+// The row of an axis with these bounds: J is 1 at its DoF, and lhs is WJ there. `fine` and `ordered` as in its refusal.
+fn axis_row(
+    arm: Arm,
+    link: u32,
+    axis: u32,
+    fine: bool,
+    ordered: bool,
+    b: Bounds,
+    cfm_coeff: f32,
+    mass: &[f32],
+    j: &mut [f32],
+    wj: &mut [f32],
+) -> ConstraintRow
+    ensures { λ r. ⌜ out r (now (j .exit)) (now (wj .exit)) ≡ axisAnswer arm link axis fine ordered b «cfm_coeff» (now (mass .entry)) (now (j .entry)) (now (wj .entry)) ⌝ }
+{
+    let refusal = row_refusal(arm, link, axis, fine, ordered, mass, j.len(), wj.len());
+    if refusal != 0 {
+        return refused_row(refusal);
+    }
+    let n = dof_count(arm);
+    let at = dof_at(arm, link as usize, axis_byte(axis));
+    let mut unit = [0.0f32; DOFS];
+    unit[at] = 1.0;
+    constrain(&unit[0..n], at, b, cfm_coeff, mass, j, wj)
+}
 
 // The row of an axis' limit. The first n floats of `j` become J and those of `wj` WJ, n being the DoF count.
 pub fn limit_row(
@@ -332,13 +291,21 @@ pub fn limit_row(
 ) -> ConstraintRow
     ensures { λ r. ⌜ out r (now (j .exit)) (now (wj .exit)) ≡ limitAnswer arm link axis given (now (mass .entry)) (now (j .entry)) (now (wj .entry)) ⌝ }
 {
-    let refusal = limit_refusal(arm, link, axis, given, mass, j.len(), wj.len());
-    if refusal != 0 {
-        return refused_row(refusal);
-    }
-    let n = dof_count(arm);
-    let at = dof_at(arm, link as usize, axis_byte(axis));
-    constrain(n, at, limit_bounds(given), given.cfm_coeff, mass, j, wj)
+    let fine = are_finite_limits(given);
+    let ordered = !(given.max < given.min);
+    let bounds = limit_bounds(given);
+    axis_row(
+        arm,
+        link,
+        axis,
+        fine,
+        ordered,
+        bounds,
+        given.cfm_coeff,
+        mass,
+        j,
+        wj,
+    )
 }
 
 // The row of an axis' friction, which the arm's row holds. `j` and `wj` as in `limit_row`.
@@ -354,12 +321,20 @@ pub fn friction_row(
 ) -> ConstraintRow
     ensures { λ r. ⌜ out r (now (j .exit)) (now (wj .exit)) ≡ frictionAnswer arm link axis dt «cfm_coeff» (now (mass .entry)) (now (j .entry)) (now (wj .entry)) ⌝ }
 {
-    let refusal = friction_refusal(arm, link, axis, dt, cfm_coeff, mass, j.len(), wj.len());
-    if refusal != 0 {
-        return refused_row(refusal);
-    }
-    let n = dof_count(arm);
-    let at = dof_at(arm, link as usize, axis_byte(axis));
-    let bounds = friction_bounds(friction_at(arm, link, axis), dt);
-    constrain(n, at, bounds, cfm_coeff, mass, j, wj)
+    let friction = friction_at(arm, link, axis);
+    let fine = finite(dt) & finite(cfm_coeff);
+    let ordered = !(friction * dt < 0.0);
+    let bounds = friction_bounds(friction, dt);
+    axis_row(
+        arm,
+        link,
+        axis,
+        fine,
+        ordered,
+        bounds,
+        cfm_coeff,
+        mass,
+        j,
+        wj,
+    )
 }

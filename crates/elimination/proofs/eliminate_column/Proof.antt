@@ -1,23 +1,33 @@
 -- `eliminate_column`: the pivot row is read, the rows are swapped, and those below are reduced: the column, by its definition.
-use Rattle.elimination.proofs.Rows.{inside}
 use mathlib.Core.Path.{_∙_}
 use native.Mathlib.Omega.{arith}
 use borrow.Author.Needs.{needs}
+use Rattle.elimination.proofs.Rows.{inside, row-read}
 use Rattle.elimination.proofs.eliminate_column.Statement.{statement}
 use Rattle.elimination.proofs.eliminate_column.Tie as tie
 
-load-row-requires : tie.Need-load-row-requires
-load-row-requires c κs = (omega (arith, inside (c .before .before .before .before .args .p) (c .before .before .before .before .args .n) (c .before .before .before .before .pre .1)), c .before .before .before .before .pre .3)
+mul-copy-part : tie.Need-mul-copy-part
+mul-copy-part c =
+    let s : tie.Start = search in
+    omega (arith, inside (s .pre .1))
+
+copy-part-requires : tie.Need-copy-part-requires
+copy-part-requires c κs = search needs
 
 swap-rows-requires : tie.Need-swap-rows-requires
 swap-rows-requires c κs =
-    let start = c .before .before .before .before .before .before .before .before .before in
-    (start .pre .0, start .pre .1, start .pre .2, c .before .before .before .pivot .given ∙ start .pre .3, c .before .before .before .before .load-row .ensures)
+    let s : tie.Start = search in
+    let read : tie.After-copy-part = search in
+    let back : tie.After-pivot = search in
+    let e = row-read (s .args .n) (s .args .p) (s .args .rows .now) (s .args .pivot .now) (s .pre .1) (s .pre .2) (s .pre .3) in
+    (s .pre .0, s .pre .1, s .pre .2, back .pivot .given ∙ s .pre .3, read .copy-part .ensures ∙ e)
 
 reduce-below-requires : tie.Need-reduce-below-requires
 reduce-below-requires c κs =
-    let start = c .before .before .before .before .before .before .before .before .before .before .before .before .before .before in
-    (omega arith, c .before .before .before .rows .given ∙ start .pre .2, c .before .before .before .before .before .before .before .before .pivot .given ∙ start .pre .3)
+    let s : tie.Start = search in
+    let back : tie.After-pivot = search in
+    let swapped : tie.After-rows = search in
+    (omega arith, swapped .rows .given ∙ s .pre .2, back .pivot .given ∙ s .pre .3)
 
 same-length : tie.Need-same-length
 same-length c = search needs
@@ -26,13 +36,16 @@ same-length-2 : tie.Need-same-length-2
 same-length-2 c = search needs
 
 returns : tie.Need-returns
-returns c = cc
+returns c =
+    let s : tie.Start = search in
+    cc (row-read (s .args .n) (s .args .p) (s .args .rows .now) (s .args .pivot .now) (s .pre .1) (s .pre .2) (s .pre .3))
 
 pub eliminate-column-spec : {M : Type 1} → statement M
 eliminate-column-spec =
     tie.close
     (tie.spec
-    load-row-requires
+    mul-copy-part
+    copy-part-requires
     swap-rows-requires
     reduce-below-requires
     same-length

@@ -20,16 +20,19 @@ abbrev μ-loop : tie.MeasureT-loop
 μ-loop n k rows p₀ at₀ v₀ i₀ p at v i = n - i
 
 mul-at : tie.Need-mul-at Inv-loop μ-loop
-mul-at c = let h = inside (c .before .args .k) (c .before .args .n) (c .before .pre .0) in omega arith
+mul-at c = omega (arith, inside (c .before .pre .0))
 
 add-at : tie.Need-add-at Inv-loop μ-loop
-add-at c = let h = at-inside (c .before .args .k) (c .before .args .k) (c .before .args .n) (c .before .pre .0) (c .before .pre .0) in omega arith
+add-at c = let k = c .before .pre .0 in omega (arith, at-inside k k)
 
 mul-absolute-value : tie.Need-mul-absolute-value Inv-loop μ-loop
-mul-absolute-value c = let h = at-inside (c .before .args .k) (c .before .args .k) (c .before .args .n) (c .before .pre .0) (c .before .pre .0) in let g : c .before .args .k * c .before .args .n + c .before .args .k < length (c .before .args .rows .now) = omega arith in search needs
+mul-absolute-value c =
+    let s = c .before in
+    let g : s .args .k * s .args .n + s .args .k < length (s .args .rows .now) = omega (arith, at-inside (s .pre .0) (s .pre .0)) in
+    search needs
 
 shared-slice-read-absolute-value : tie.Need-shared-slice-read-absolute-value Inv-loop μ-loop
-shared-slice-read-absolute-value c = let h = at-inside (c .before .before .args .k) (c .before .before .args .k) (c .before .before .args .n) (c .before .before .pre .0) (c .before .before .pre .0) in omega arith
+shared-slice-read-absolute-value c = let k = c .before .before .pre .0 in omega (arith, at-inside k k)
 
 absolute-value-requires : tie.Need-absolute-value-requires Inv-loop μ-loop
 absolute-value-requires c κs = search needs
@@ -38,18 +41,21 @@ add-i : tie.Need-add-i Inv-loop μ-loop
 add-i c = search needs
 
 loop-holds : tie.Need-loop-holds Inv-loop μ-loop
-loop-holds c = (omega arith, omega arith, omega arith, omega arith, omega (arith, next (c .before .before .before .args .k) (c .before .before .before .args .n)), c .absolute-value .ensures, refl)
+loop-holds c =
+    let s : tie.Start Inv-loop μ-loop = search in
+    (omega arith, omega arith, omega arith, omega arith, omega (arith, next (s .args .k) (s .args .n)), c .absolute-value .ensures, refl)
 
 add-at-2 : tie.Need-add-at-2 Inv-loop μ-loop
-add-at-2 c = let h = inside (c .before .loop .i) (c .before .before .before .before .before .args .n) (c .loop-test .taken) in omega arith
+add-at-2 c = omega (arith, inside (c .loop-test .taken))
 
 mul-absolute-value-2 : tie.Need-mul-absolute-value-2 Inv-loop μ-loop
 mul-absolute-value-2 c =
-    let start = c .before .before .before .before .before in
-    let h = inside (c .before .loop .i) (start .args .n) (c .loop-test .taken) in let g : c .before .loop .at + start .args .n < length (start .args .rows .now) = omega arith in search needs
+    let s : tie.Start Inv-loop μ-loop = search in
+    let g : c .before .loop .at + s .args .n < length (s .args .rows .now) = omega (arith, inside (c .loop-test .taken)) in
+    search needs
 
 shared-slice-read-absolute-value-2 : tie.Need-shared-slice-read-absolute-value-2 Inv-loop μ-loop
-shared-slice-read-absolute-value-2 c = let h = inside (c .before .before .loop .i) (c .before .before .before .before .before .before .args .n) (c .before .loop-test .taken) in omega arith
+shared-slice-read-absolute-value-2 c = omega (arith, inside (c .before .loop-test .taken))
 
 absolute-value-requires-2 : tie.Need-absolute-value-requires-2 Inv-loop μ-loop
 absolute-value-requires-2 c κs = search needs
@@ -62,25 +68,43 @@ loop-less c = search needs
 
 loop-again : tie.Need-loop-again Inv-loop μ-loop
 loop-again c =
-    let start = c .before .before .before .before .before .before .before .before in
-    let turn = c .before .before .before .before in
-    let at-loop-test = c .before .before .before in
-    let n = start .args .n in
-    let k = start .args .k in
-    let a = start .args .rows .now in
+    let s : tie.Start Inv-loop μ-loop = search in
+    let turn : tie.At-loop Inv-loop μ-loop = search in
+    let tested : tie.In-loop Inv-loop μ-loop = search in
+    let n = s .args .n in
+    let k = s .args .k in
+    let a = s .args .rows .now in
     let i = turn .loop .i in
-    let p = turn .loop .p in
-    let w2 = c .before .absolute-value2 .result in
-    let ew : w2 ≡ absolute (entry n i k a) = c .before .absolute-value2 .ensures ∙ ap (λ (j : ℕ). absolute (getD a j nan)) (turn .loop .inv .4) in
+    let value = c .before .absolute-value2 in
+    let here : value .result ≡ absolute (entry n i k a) = value .ensures ∙ ap (λ (j : ℕ). absolute (getD a j nan)) (turn .loop .inv .4) in
+    let more = greatest-more n k a i (turn .loop .p) (tested .loop-test .taken) (turn .loop .greatest) (value .result) (turn .loop .inv .5) here in
+    let at = next i n in
     ⊎-elim
-    (λ w. (omega arith, omega arith, omega arith, omega arith, omega (arith, next i n), w .2 ∙ ew ∙ ap (λ (j : ℕ). absolute (entry n j k a)) (sym (w .1)), turn .loop .inv .6 ∙ greatest-more n k a i p (at-loop-test .loop-test .taken) (turn .loop .greatest) w2 (turn .loop .inv .5) ew true (c .if1 .p) (w .0 .taken) (w .1)))
-    (λ w. (omega arith, omega arith, omega arith, omega arith, omega (arith, next i n), w .2 ∙ turn .loop .inv .5 ∙ ap (λ (j : ℕ). absolute (entry n j k a)) (sym (w .1)), turn .loop .inv .6 ∙ greatest-more n k a i p (at-loop-test .loop-test .taken) (turn .loop .greatest) w2 (turn .loop .inv .5) ew false (c .if1 .p) (w .0 .left) (w .1)))
+    (λ w. (
+      omega arith,
+      omega arith,
+      omega arith,
+      omega arith,
+      omega arith,
+      w .2 ∙ here ∙ ap (λ (j : ℕ). absolute (entry n j k a)) (sym (w .1)),
+      turn .loop .inv .6 ∙ more true (c .if1 .p) (w .0 .taken) (w .1),
+    ))
+    (λ w. (
+      omega arith,
+      omega arith,
+      omega arith,
+      omega arith,
+      omega arith,
+      w .2 ∙ turn .loop .inv .5 ∙ ap (λ (j : ℕ). absolute (entry n j k a)) (sym (w .1)),
+      turn .loop .inv .6 ∙ more false (c .if1 .p) (w .0 .left) (w .1),
+    ))
     (c .if1 .came)
 
 returns : tie.Need-returns Inv-loop μ-loop
 returns c =
-    let start = c .before .before .before .before .before in
-    (sym (c .before .loop .inv .6 ∙ greatest-end (start .args .n) (start .args .k) (start .args .rows .now) (c .before .loop .i) (c .before .loop .p) (omega arith)), omega arith, omega arith)
+    let s : tie.Start Inv-loop μ-loop = search in
+    let end = greatest-end (s .args .n) (s .args .k) (s .args .rows .now) (c .before .loop .i) (c .before .loop .p) (c .loop-test .left) in
+    (sym (c .before .loop .inv .6 ∙ end), omega arith, omega arith)
 
 pub pivot-row-spec : {M : Type 1} → statement M
 pivot-row-spec =

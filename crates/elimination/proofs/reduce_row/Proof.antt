@@ -55,21 +55,22 @@ part-take-away-end-2 c = search needs
 
 take-away-requires : tie.Need-take-away-requires
 take-away-requires c κs =
-    let start = c .before .before .before .before .before .before in
-    right-parts (start .args .k) (start .args .row .now) (start .args .pivot .now) _ (start .pre .0) (start .pre .1)
+    let s : tie.Start = search in
+    right-parts (s .args .k) (s .args .row .now) (s .args .pivot .now) _ (s .pre .0) (s .pre .1)
 
 same-length : tie.Need-same-length
 same-length c =
-    let start = c .before .before .before .before .before .before .before .before .before in
-    c .before .row .given .1 ∙ length-set (start .args .row .now) (start .args .k) _
+    let s : tie.Start = search in
+    c .before .row .given .1 ∙ length-set (s .args .row .now) (s .args .k) _
 
 returns : tie.Need-returns
 returns c =
-    let start = c .before .before .before .before .before .before .before .before .before in
-    let k = start .args .k in
-    let r = start .args .row .now in
-    let p = start .args .pivot .now in
-    row-law k r p (factorOf k p r) (start .pre .0) (start .pre .1) (c .before .before .take-away .last .0) refl (c .before .before .take-away .ensures)
+    let s : tie.Start = search in
+    let k = s .args .k in
+    let r = s .args .row .now in
+    let p = s .args .pivot .now in
+    let t = c .before .before .take-away in
+    row-law k r p (factorOf k p r) (s .pre .0) (s .pre .1) (t .last .0) refl (t .ensures)
 
 pub reduce-row-spec : {M : Type 1} → statement M
 reduce-row-spec =

@@ -1,13 +1,13 @@
 -- `square_fits`: n · n is at most `len` exactly if n is at most len / n, for n above 0.
-use Rattle.elimination.proofs.Rows.{square-mono}
-use Rattle.elimination.proofs.Room.{square-by}
 use native.Mathlib.Omega.{arith}
 use borrow.Author.Needs.{needs}
+use Rattle.elimination.proofs.Rows.{square-mono}
+use Rattle.elimination.proofs.Room.{square-by}
 use Rattle.elimination.proofs.square_fits.Statement.{statement}
 use Rattle.elimination.proofs.square_fits.Tie as tie
 
 mul-result : tie.Need-mul-result
-mul-result c = let h = square-mono (c .before .args .n) 48 (c .if1 .taken) in omega arith
+mul-result c = omega (arith, square-mono (c .if1 .taken))
 
 returns : tie.Need-returns
 returns c = search needs

@@ -1,5 +1,5 @@
 -- `take_away`: the first j entries are done, the rest is as it was.
-use Rattle.elimination.specs.Elimination.{less, row}
+use Rattle.elimination.specs.Elimination.{less}
 use lib.Ieee.{nan}
 use lib.ListN.{length, length-set}
 use Prim.Native.Nat.{_-_, _≤_}
@@ -45,15 +45,20 @@ loop-less c = search needs
 
 loop-again : tie.Need-loop-again Inv-loop μ-loop
 loop-again c =
-    let start = c .before .before .before .before in
-    let turn = c .before .before .before in
-    (omega arith, simp length-set (turn .loop .inv .1), zipped-more (less (start .args .factor)) (turn .loop .j) (start .args .row .now) (start .args .pivot .now) nan (turn .loop .row) (turn .loop .inv .2) (omega arith) (omega arith))
+    let s : tie.Start Inv-loop μ-loop = search in
+    let turn : tie.At-loop Inv-loop μ-loop = search in
+    let l = turn .loop in
+    let more = zipped-more (less (s .args .factor)) (l .j) (s .args .row .now) (s .args .pivot .now) nan (l .row) (l .inv .2) (omega arith) (omega arith) in
+    (omega arith, simp length-set (l .inv .1), more)
 
 same-length : tie.Need-same-length Inv-loop μ-loop
 same-length c = search needs
 
 returns : tie.Need-returns Inv-loop μ-loop
-returns c = c .before .loop .inv .2 ∙ zipped-all (less (c .before .before .args .factor)) (c .before .loop .j) (c .before .before .args .row .now) (c .before .before .args .pivot .now) (omega arith)
+returns c =
+    let a = c .before .before .args in
+    let l = c .before .loop in
+    l .inv .2 ∙ zipped-all (less (a .factor)) (l .j) (a .row .now) (a .pivot .now) (omega arith)
 
 pub take-away-spec : {M : Type 1} → statement M
 take-away-spec =

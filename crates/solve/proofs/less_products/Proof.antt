@@ -38,12 +38,16 @@ loop-less c = search needs
 
 loop-again : tie.Need-loop-again Inv-loop μ-loop
 loop-again c =
-    let start = c .before .before .before .before in
-    let turn = c .before .before .before in
-    (omega arith, turn .loop .inv .1 ∙ products-more (start .args .row .now) (start .args .x .now) (turn .loop .j) (turn .loop .value) (omega arith) (omega arith))
+    let s : tie.Start Inv-loop μ-loop = search in
+    let turn : tie.At-loop Inv-loop μ-loop = search in
+    let l = turn .loop in
+    (omega arith, l .inv .1 ∙ products-more (s .args .row .now) (s .args .x .now) (l .j) (l .value) (omega arith) (omega arith))
 
 returns : tie.Need-returns Inv-loop μ-loop
-returns c = sym (c .before .loop .inv .1 ∙ products-end (c .before .before .args .row .now) (c .before .before .args .x .now) (c .before .loop .j) (c .before .loop .value) (c .loop-test .left))
+returns c =
+    let a = c .before .before .args in
+    let l = c .before .loop in
+    sym (l .inv .1 ∙ products-end (a .row .now) (a .x .now) (l .j) (l .value) (c .loop-test .left))
 
 pub less-products-spec : {M : Type 1} → statement M
 less-products-spec =

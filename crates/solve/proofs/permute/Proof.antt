@@ -35,15 +35,22 @@ loop-less c = search needs
 
 loop-again : tie.Need-loop-again Inv-loop μ-loop
 loop-again c =
-    let start = c .before .before .before .before .before .before .before .before .before in
-    let turn = c .before .before .before .before .before .before in
-    (omega arith, c .before .x .given ∙ turn .loop .inv .1, turn .loop .inv .2 ∙ permuted-more (turn .loop .k) (start .args .swaps .now) (turn .loop .x) (c .before .before .before .before .before .loop-test .taken) ∙ ap (permuted (turn .loop .k + 1) (drop (turn .loop .k + 1) (start .args .swaps .now))) (sym (c .before .before .exchange .ensures)))
+    let s : tie.Start Inv-loop μ-loop = search in
+    let begun : tie.In-loop Inv-loop μ-loop = search in
+    let l = begun .before .loop in
+    let w = s .args .swaps .now in
+    let more = permuted-more (l .k) w (l .x) (begun .loop-test .taken) in
+    let made = c .before .before .exchange .ensures in
+    (omega arith, c .before .x .given ∙ l .inv .1, l .inv .2 ∙ more ∙ ap (permuted (l .k + 1) (drop (l .k + 1) w)) (sym made))
 
 same-length : tie.Need-same-length Inv-loop μ-loop
 same-length c = search needs
 
 returns : tie.Need-returns Inv-loop μ-loop
-returns c = sym (c .before .loop .inv .2 ∙ permuted-end (c .before .loop .k) (c .before .before .before .before .args .swaps .now) (c .before .loop .x) (c .loop-test .left))
+returns c =
+    let s : tie.Start Inv-loop μ-loop = search in
+    let l = c .before .loop in
+    sym (l .inv .2 ∙ permuted-end (l .k) (s .args .swaps .now) (l .x) (c .loop-test .left))
 
 pub permute-spec : {M : Type 1} → statement M
 permute-spec =

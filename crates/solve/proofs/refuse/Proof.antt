@@ -1,83 +1,64 @@
--- `refuse`: each test is that of the definition, which gives the lowest of those that fail.
-use Rattle.solve.proofs.Answers.{fits-matrix, fits-right, refused-one, refused-seven, refused-two}
-use borrow.Author.Tests.{not-false, not-true}
+-- `refuse`: the same list of tests; past the limit the floats read are others, but 2 is lower.
 use native.Mathlib.Omega.{arith}
-use borrow.Author.Needs.{needs}
-use Rattle.elimination.proofs.Rows.{square-mono}
+use Prim.Native.Nat.{_≤_}
 use Rattle.limits.specs.Limits.{dofLimit}
+use Rattle.elimination.proofs.Rows.{square-mono}
+use Rattle.solve.proofs.Answers.{refusal-is}
+use borrow.Author.Needs.{needs}
 use Rattle.solve.proofs.refuse.Statement.{statement}
 use Rattle.solve.proofs.refuse.Tie as tie
+
+fewer-requires : tie.Need-fewer-requires
+fewer-requires c κs = search needs
 
 square-fits-requires : tie.Need-square-fits-requires
 square-fits-requires c κs = search needs
 
-returns : tie.Need-returns
-returns c =
-    let start = c .before .before .before .before in
-    refused-one (start .args .n) (start .args .matrix .now) (start .args .right .now) (start .args .room) (c .before .square-fits .result) (c .before .square-fits .ensures) (not-true _ (c .if1 .taken))
-
-returns-2 : tie.Need-returns-2
-returns-2 c =
-    let start = c .before .before .before .before .before in
-    refused-two (start .args .n) (start .args .matrix .now) (start .args .right .now) (start .args .room) (c .before .before .square-fits .result) (c .before .before .square-fits .ensures) (not-false _ (c .before .if1 .left)) (c .if2 .taken)
-
-mul-nn : tie.Need-mul-nn
-mul-nn c = omega (arith, square-mono (c .before .before .before .before .before .args .n) dofLimit (c .if2 .left))
-
-sub-all-finite : tie.Need-sub-all-finite
-sub-all-finite c = search needs
-
-part-all-finite-start : tie.Need-part-all-finite-start
-part-all-finite-start c = search needs
-
-part-all-finite-end : tie.Need-part-all-finite-end
-part-all-finite-end c =
-    let start = c .before .before .before .before .before in
-    fits-matrix (start .args .n) (start .args .matrix .now) (start .args .right .now) (start .args .room) (c .before .before .square-fits .result) (c .before .before .square-fits .ensures) (not-false _ (c .before .if1 .left))
-
-all-finite-requires : tie.Need-all-finite-requires
-all-finite-requires c κs = search needs
-
-sub-all-finite-2 : tie.Need-sub-all-finite-2
-sub-all-finite-2 c = search needs
-
-part-all-finite-start-2 : tie.Need-part-all-finite-start-2
-part-all-finite-start-2 c = search needs
-
-part-all-finite-end-2 : tie.Need-part-all-finite-end-2
-part-all-finite-end-2 c =
-    let start = c .before .before .before .before .before .before .before in
-    let at-square-fits = c .before .before .before .before in
-    fits-right (start .args .n) (start .args .matrix .now) (start .args .right .now) (start .args .room) (at-square-fits .square-fits .result) (at-square-fits .square-fits .ensures) (not-false _ (c .before .before .before .if1 .left))
-
-all-finite-requires-2 : tie.Need-all-finite-requires-2
-all-finite-requires-2 c κs = search needs
-
 unless-requires : tie.Need-unless-requires
 unless-requires c κs = search needs
 
-returns-3 : tie.Need-returns-3
-returns-3 c =
-    let start = c .before .before .before .before .before .before .before .before .before .before in
-    let at-square-fits = c .before .before .before .before .before .before .before in
-    let at-all-finite = c .before .before .before in
-    refused-seven (start .args .n) (start .args .matrix .now) (start .args .right .now) (start .args .room) (at-square-fits .square-fits .result) (at-square-fits .square-fits .ensures) (not-false _ (c .before .before .before .before .before .before .if1 .left)) (c .before .before .before .before .before .if2 .left) (c .unless .result) (at-all-finite .all-finite .result) (c .before .all-finite2 .result) (at-all-finite .all-finite .ensures) (c .before .all-finite2 .ensures) (c .unless .ensures)
+unless-requires-2 : tie.Need-unless-requires-2
+unless-requires-2 c κs = search needs
+
+mul-is-finite-part : tie.Need-mul-is-finite-part
+mul-is-finite-part c =
+    let cut : tie.After-fewer = search in
+    let few : cut .fewer .result ≤ dofLimit = omega (arith, cut .fewer .ensures) in
+    omega (arith, square-mono few)
+
+is-finite-part-requires : tie.Need-is-finite-part-requires
+is-finite-part-requires c κs = search needs
+
+is-finite-part-requires-2 : tie.Need-is-finite-part-requires-2
+is-finite-part-requires-2 c κs = search needs
+
+unless-requires-3 : tie.Need-unless-requires-3
+unless-requires-3 c κs = search needs
+
+slice-aggregate-lowest : tie.Need-slice-aggregate-lowest
+slice-aggregate-lowest c = search needs
+
+lowest-requires : tie.Need-lowest-requires
+lowest-requires c κs = search needs
+
+returns : tie.Need-returns
+returns c =
+    let s : tie.Start = search in
+    let cut : tie.After-fewer = search in
+    cc (refusal-is (s .args .n) (cut .fewer .result) (s .args .matrix .now) (s .args .right .now) (s .args .room) (cut .fewer .ensures))
 
 pub refuse-spec : {M : Type 1} → statement M
 refuse-spec =
     tie.close
     (tie.spec
+    fewer-requires
     square-fits-requires
-    returns
-    returns-2
-    mul-nn
-    sub-all-finite
-    part-all-finite-start
-    part-all-finite-end
-    all-finite-requires
-    sub-all-finite-2
-    part-all-finite-start-2
-    part-all-finite-end-2
-    all-finite-requires-2
+    mul-is-finite-part
+    is-finite-part-requires
+    is-finite-part-requires-2
     unless-requires
-    returns-3)
+    unless-requires-2
+    unless-requires-3
+    slice-aggregate-lowest
+    lowest-requires
+    returns)

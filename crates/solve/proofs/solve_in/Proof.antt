@@ -1,26 +1,18 @@
 -- `solve_in`: the matrix copied over the room and factored there; a trouble of the factors ends it, else the substitution does.
-use Rattle.solve.proofs.Answers.{solve-good, solve-trouble}
 use native.Mathlib.Omega.{arith}
 use borrow.Author.Needs.{needs}
 use Rattle.elimination.proofs.Rows.{square-mono}
-use Rattle.limits.specs.Limits.{dofLimit}
+use Rattle.solve.proofs.Answers.{solve-good, solve-trouble}
 use Rattle.solve.proofs.solve_in.Statement.{statement}
 use Rattle.solve.proofs.solve_in.Tie as tie
 
-mul-nn : tie.Need-mul-nn
-mul-nn c = omega (arith, square-mono (c .before .before .before .before .before .args .n) dofLimit (c .before .before .before .before .before .pre .0))
+mul-copy-part : tie.Need-mul-copy-part
+mul-copy-part c =
+    let s : tie.Start = search in
+    omega (arith, square-mono (s .pre .0))
 
-sub-copy : tie.Need-sub-copy
-sub-copy c = search needs
-
-part-copy-start : tie.Need-part-copy-start
-part-copy-start c = search needs
-
-part-copy-end : tie.Need-part-copy-end
-part-copy-end c = search needs
-
-copy-requires : tie.Need-copy-requires
-copy-requires c κs = search needs
+copy-part-requires : tie.Need-copy-part-requires
+copy-part-requires c κs = search needs
 
 factor-requires : tie.Need-factor-requires
 factor-requires c κs = search needs
@@ -31,12 +23,23 @@ same-length c = search needs
 same-length-2 : tie.Need-same-length-2
 same-length-2 c = search needs
 
+-- the matrix copied, and its factors made of that
+abbrev start : tie.After-copy-part → tie.Start
+start c = c .before .before .before .before .before .before .before
+
+abbrev copied : tie.After-rows2 → tie.After-rows
+copied c = c .before .before .before .before .before
+
 returns : tie.Need-returns
 returns c =
-    let start = c .before .before .before .before .before .before .before .before .before .before .before .before .before .before .before .before .before .before in
-    let at-copy = c .before .before .before .before .before .before .before .before .before .before in
-    let at-factor = c .before .before .before .before .before in
-    solve-trouble (start .args .n) (start .args .matrix .now) (start .args .right .now) (start .args .result .now) (start .args .rows .now) (at-copy .copy .last .0) (at-factor .factor .last .1 .0) (start .args .swaps .now) (at-factor .factor .last .1 .1 .0) (at-factor .factor .result) (start .pre .0) (start .pre .1) (start .pre .4) (start .pre .5) (at-copy .copy .ensures) (c .before .before .before .before .before .before .before .before .before .rows .given) (c .before .before .before .before .rows2 .given) (c .before .before .swaps .given) (at-factor .factor .ensures) (c .if1 .taken)
+    let swaps : tie.After-swaps = c .before .before in
+    let rows : tie.After-rows2 = swaps .before .before in
+    let f = rows .before .factor in
+    let w = copied rows in
+    let s = start (w .before) in
+    solve-trouble (s .args .n) (s .args .matrix .now) (s .args .right .now) (s .args .result .now) (s .args .rows .now) (w .before .copy-part .last .0) (f .last .1 .0)
+    (s .args .swaps .now) (f .last .1 .1 .0) (f .result) (s .pre .0) (s .pre .1) (s .pre .4) (s .pre .5) (w .before .copy-part .ensures) (w .rows .given)
+    (rows .rows2 .given) (swaps .swaps .given) (f .ensures) (c .if1 .taken)
 
 substitute-requires : tie.Need-substitute-requires
 substitute-requires c κs = search needs
@@ -52,20 +55,22 @@ same-length-5 c = search needs
 
 returns-2 : tie.Need-returns-2
 returns-2 c =
-    let start = c .before .before .before .before .before .before .before .before .before .before .before .before .before .before .before .before .before .before .before .before .before .before .before .before in
-    let at-copy = c .before .before .before .before .before .before .before .before .before .before .before .before .before .before .before .before in
-    let at-factor = c .before .before .before .before .before .before .before .before .before .before .before in
-    solve-good (start .args .n) (start .args .matrix .now) (start .args .right .now) (start .args .result .now) (start .args .rows .now) (at-copy .copy .last .0) (at-factor .factor .last .1 .0) (start .args .swaps .now) (at-factor .factor .last .1 .1 .0) (at-factor .factor .result) (start .pre .0) (start .pre .1) (start .pre .4) (start .pre .5) (at-copy .copy .ensures) (c .before .before .before .before .before .before .before .before .before .before .before .before .before .before .before .rows .given) (c .before .before .before .before .before .before .before .before .before .before .rows2 .given) (c .before .before .before .before .before .before .before .before .swaps .given) (at-factor .factor .ensures) (c .before .before .before .before .before .before .if1 .left) (start .pre .2) (start .pre .3) _ (c .before .before .substitute .ensures)
+    let good : tie.Else1 = search in
+    let swaps : tie.After-swaps = good .before .before in
+    let rows : tie.After-rows2 = swaps .before .before in
+    let f = rows .before .factor in
+    let w = copied rows in
+    let s = start (w .before) in
+    solve-good (s .args .n) (s .args .matrix .now) (s .args .right .now) (s .args .result .now) (s .args .rows .now) (w .before .copy-part .last .0) (f .last .1 .0)
+    (s .args .swaps .now) (f .last .1 .1 .0) (f .result) (s .pre .0) (s .pre .1) (s .pre .4) (s .pre .5) (w .before .copy-part .ensures) (w .rows .given)
+    (rows .rows2 .given) (swaps .swaps .given) (f .ensures) (good .if1 .left) (s .pre .2) (s .pre .3) _ (c .before .before .substitute .ensures)
 
 pub solve-in-spec : {M : Type 1} → statement M
 solve-in-spec =
     tie.close
     (tie.spec
-    mul-nn
-    sub-copy
-    part-copy-start
-    part-copy-end
-    copy-requires
+    mul-copy-part
+    copy-part-requires
     factor-requires
     same-length
     same-length-2

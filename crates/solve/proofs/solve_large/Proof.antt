@@ -1,7 +1,6 @@
 -- `solve_large`: its buffers have room for every n that isn't refused.
 use Rattle.solve.proofs.Answers.{buffer-room}
 use borrow.Author.Needs.{needs}
-use Rattle.limits.specs.Limits.{dofLimit}
 use Rattle.solve.proofs.solve_large.Statement.{statement}
 use Rattle.solve.proofs.solve_large.Tie as tie
 
@@ -13,8 +12,8 @@ slice-aggregate-solve-in-2 c = search needs
 
 solve-in-requires : tie.Need-solve-in-requires
 solve-in-requires c κs =
-    let start = c .before .before .before .before .before .before in
-    (start .pre .0, start .pre .1, start .pre .2, start .pre .3, buffer-room dofLimit (start .args .n) (start .pre .0), start .pre .0)
+    let s : tie.Start = search in
+    (s .pre .0, s .pre .1, s .pre .2, s .pre .3, buffer-room (s .pre .0), s .pre .0)
 
 same-length : tie.Need-same-length
 same-length c = search needs

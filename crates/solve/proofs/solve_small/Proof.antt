@@ -1,6 +1,5 @@
 -- `solve_small`: its buffers have room for n up to smallSize.
 use Rattle.solve.proofs.Answers.{buffer-room}
-use Rattle.solve.specs.Buffers.{smallSize}
 use native.Mathlib.Omega.{arith}
 use borrow.Author.Needs.{needs}
 use Rattle.solve.proofs.solve_small.Statement.{statement}
@@ -14,8 +13,8 @@ slice-aggregate-solve-in-2 c = search needs
 
 solve-in-requires : tie.Need-solve-in-requires
 solve-in-requires c κs =
-    let start = c .before .before .before .before .before .before in
-    (omega arith, start .pre .1, start .pre .2, start .pre .3, buffer-room smallSize (start .args .n) (start .pre .0), start .pre .0)
+    let s : tie.Start = search in
+    (omega arith, s .pre .1, s .pre .2, s .pre .3, buffer-room (s .pre .0), s .pre .0)
 
 same-length : tie.Need-same-length
 same-length c = search needs

@@ -1,12 +1,14 @@
 -- `substitute`: the room is tested as the definition does; then the needed parts are handed on.
-use Rattle.solve.proofs.Answers.{enough-factors, enough-result, enough-right, enough-swaps, substitute-front, substitute-large, substitute-short}
-use borrow.Author.Tests.{not-false, not-true}
-use Prim.Native.Nat.{_*_}
+use Prim.Native.Nat.{_*_, _≤_}
+use mathlib.Core.Path.{_∙_, sym}
+use native.Mathlib.Nat.{sub-zero}
 use native.Mathlib.Omega.{arith}
 use borrow.Author.Needs.{needs}
+use borrow.Author.Tests.{leb-true, not-false, not-true}
+use lib.ListN.{length}
 use Rattle.elimination.proofs.Room.{front-length}
 use Rattle.elimination.proofs.Rows.{square-mono}
-use Rattle.limits.specs.Limits.{dofLimit}
+use Rattle.solve.proofs.Answers.{four, substitute-fits, substitute-large, substitute-short}
 use Rattle.solve.proofs.substitute.Statement.{statement}
 use Rattle.solve.proofs.substitute.Tie as tie
 
@@ -15,16 +17,32 @@ square-fits-requires c κs = search needs
 
 returns : tie.Need-returns
 returns c =
-    let start = c .before .before .before .before .before .before in
-    substitute-short (start .args .n) (start .args .factors .now) (start .args .swaps .now) (start .args .right .now) (start .args .result .now) (c .before .square-fits .result) (c .before .square-fits .ensures) (not-true _ (c .if1 .taken))
+    let s : tie.Start = search in
+    let a = s .args in
+    substitute-short (a .n) (a .factors .now) (a .swaps .now) (a .right .now) (a .result .now) _ (c .before .square-fits .ensures) (not-true _ (c .if1 .taken))
 
 returns-2 : tie.Need-returns-2
 returns-2 c =
-    let start = c .before .before .before .before .before .before .before in
-    substitute-large (start .args .n) (start .args .factors .now) (start .args .swaps .now) (start .args .right .now) (start .args .result .now) (c .before .before .square-fits .result) (c .before .before .square-fits .ensures) (not-false _ (c .before .if1 .left)) (c .if2 .taken)
+    let s : tie.Start = search in
+    let a = s .args in
+    let roomy = c .before in
+    substitute-large (a .n) (a .factors .now) (a .swaps .now) (a .right .now) (a .result .now) _ (roomy .before .square-fits .ensures) (not-false _ (roomy .if1 .left)) (c .if2 .taken)
+
+-- what the tests tell of the lengths
+abbrev start : tie.Else1 → tie.Start
+start c = c .before .before .before .before .before .before
+
+enough : (c : tie.Else1)
+    → (start c .args .n * start c .args .n ≤ length (start c .args .factors .now))
+    × (start c .args .n ≤ length (start c .args .swaps .now))
+    × (start c .args .n ≤ length (start c .args .right .now))
+    × (start c .args .n ≤ length (start c .args .result .now))
+enough c =
+    let w = four _ _ _ _ (not-false _ (c .if1 .left)) in
+    (leb-true _ _ (sym (c .before .square-fits .ensures) ∙ w .0), leb-true _ _ (w .1), leb-true _ _ (w .2), leb-true _ _ (w .3))
 
 mul-nn : tie.Need-mul-nn
-mul-nn c = omega (arith, square-mono (c .before .before .before .before .before .before .before .args .n) dofLimit (c .if2 .left))
+mul-nn c = omega (arith, square-mono (c .if2 .left))
 
 sub-substitute-whole : tie.Need-sub-substitute-whole
 sub-substitute-whole c = search needs
@@ -33,9 +51,7 @@ part-substitute-whole-start : tie.Need-part-substitute-whole-start
 part-substitute-whole-start c = search needs
 
 part-substitute-whole-end : tie.Need-part-substitute-whole-end
-part-substitute-whole-end c =
-    let start = c .before .before .before .before .before .before .before in
-    enough-factors (start .args .n) (start .args .factors .now) (start .args .swaps .now) (start .args .right .now) (start .args .result .now) (c .before .before .square-fits .result) (c .before .before .square-fits .ensures) (not-false _ (c .before .if1 .left))
+part-substitute-whole-end c = enough (c .before) .0
 
 sub-substitute-whole-2 : tie.Need-sub-substitute-whole-2
 sub-substitute-whole-2 c = search needs
@@ -44,10 +60,7 @@ part-substitute-whole-start-2 : tie.Need-part-substitute-whole-start-2
 part-substitute-whole-start-2 c = search needs
 
 part-substitute-whole-end-2 : tie.Need-part-substitute-whole-end-2
-part-substitute-whole-end-2 c =
-    let start = c .before .before .before .before .before .before .before .before in
-    let at-square-fits = c .before .before .before in
-    enough-swaps (start .args .n) (start .args .factors .now) (start .args .swaps .now) (start .args .right .now) (start .args .result .now) (at-square-fits .square-fits .result) (at-square-fits .square-fits .ensures) (not-false _ (c .before .before .if1 .left))
+part-substitute-whole-end-2 c = enough (c .before .before) .1
 
 sub-substitute-whole-3 : tie.Need-sub-substitute-whole-3
 sub-substitute-whole-3 c = search needs
@@ -56,33 +69,24 @@ part-substitute-whole-start-3 : tie.Need-part-substitute-whole-start-3
 part-substitute-whole-start-3 c = search needs
 
 part-substitute-whole-end-3 : tie.Need-part-substitute-whole-end-3
-part-substitute-whole-end-3 c =
-    let start = c .before .before .before .before .before .before .before .before .before in
-    let at-square-fits = c .before .before .before .before in
-    enough-right (start .args .n) (start .args .factors .now) (start .args .swaps .now) (start .args .right .now) (start .args .result .now) (at-square-fits .square-fits .result) (at-square-fits .square-fits .ensures) (not-false _ (c .before .before .before .if1 .left))
+part-substitute-whole-end-3 c = enough (c .before .before .before) .2
 
 substitute-whole-requires : tie.Need-substitute-whole-requires
 substitute-whole-requires c κs =
-    let start = c .before .before .before .before .before .before .before .before .before .before .before in
-    let at-square-fits = c .before .before .before .before .before .before in
-    let n = start .args .n in
-    let a = start .args .factors .now in
-    let s = start .args .swaps .now in
-    let b = start .args .right .now in
-    let x = start .args .result .now in
-    let r = at-square-fits .square-fits .result in
-    let er = at-square-fits .square-fits .ensures in
-    let h = not-false _ (c .before .before .before .before .before .if1 .left) in
-    (c .before .before .before .before .if2 .left, front-length (n * n) a (enough-factors n a s b x r er h), front-length n s (enough-swaps n a s b x r er h), front-length n b (enough-right n a s b x r er h), enough-result n a s b x r er h)
+    let few : tie.Else2 = search in
+    let w = enough (few .before) in
+    (few .if2 .left, front-length _ _ (w .0), front-length _ _ (w .1), front-length _ _ (w .2), w .3)
 
 same-length : tie.Need-same-length
 same-length c = search needs
 
 returns-3 : tie.Need-returns-3
 returns-3 c =
-    let start = c .before .before .before .before .before .before .before .before .before .before .before .before .before .before in
-    let at-square-fits = c .before .before .before .before .before .before .before .before .before in
-    substitute-front (start .args .n) (start .args .factors .now) (start .args .swaps .now) (start .args .right .now) (start .args .result .now) (at-square-fits .square-fits .result) (at-square-fits .square-fits .ensures) (not-false _ (c .before .before .before .before .before .before .before .before .if1 .left)) (c .before .before .before .before .before .before .before .if2 .left) _ (c .before .before .substitute-whole .ensures)
+    let few : tie.Else2 = search in
+    let s = start (few .before) .args in
+    let w = enough (few .before) in
+    let fits = substitute-fits (s .n) (s .factors .now) (s .swaps .now) (s .right .now) (s .result .now) (w .0) (w .1) (w .2) (w .3) (few .if2 .left) in
+    c .before .before .substitute-whole .ensures ∙ rw (sub-zero (s .n * s .n), sub-zero (s .n)) (sym fits)
 
 pub substitute-spec : {M : Type 1} → statement M
 substitute-spec =

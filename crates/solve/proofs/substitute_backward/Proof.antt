@@ -15,8 +15,14 @@ Inv-loop n factors x₀ i₀ end₀ x i end = (i ≤ n) × (length x ≡ n) × (
 abbrev μ-loop : tie.MeasureT-loop
 μ-loop n factors x₀ i₀ end₀ x i end = i
 
+abbrev start : tie.In-loop Inv-loop μ-loop → tie.Start Inv-loop μ-loop
+start c = c .before .before .before .before
+
 mul-end : tie.Need-mul-end Inv-loop μ-loop
-mul-end c = let h = c .before .before .pre .0 in search needs
+mul-end c =
+    let s : tie.Start Inv-loop μ-loop = search in
+    let h = s .pre .0 in
+    search needs
 
 loop-holds : tie.Need-loop-holds Inv-loop μ-loop
 loop-holds c = search needs
@@ -24,8 +30,16 @@ loop-holds c = search needs
 sub-i : tie.Need-sub-i Inv-loop μ-loop
 sub-i c = search needs
 
+-- the row that ends at `end` lies in the factors
+row-in : (c : tie.In-loop Inv-loop μ-loop) → (start c .args .n ≤ c .before .loop .end) × (c .before .loop .end ≤ length (start c .args .factors .now))
+row-in c =
+    let s = start c in
+    let l = c .before .loop in
+    let h = row-end (c .loop-test .taken) (l .inv .0) in
+    (omega arith, omega arith)
+
 sub-at : tie.Need-sub-at Inv-loop μ-loop
-sub-at c = omega (arith, row-end (c .before .loop .i) (c .before .before .before .before .args .n) (c .loop-test .taken) (c .before .loop .inv .0))
+sub-at c = row-in c .0
 
 mul-less-products : tie.Need-mul-less-products Inv-loop μ-loop
 mul-less-products c = search needs
@@ -34,21 +48,23 @@ slice-read-less-products : tie.Need-slice-read-less-products Inv-loop μ-loop
 slice-read-less-products c = search needs
 
 add-less-products : tie.Need-add-less-products Inv-loop μ-loop
-add-less-products c = omega (arith, row-end (c .before .before .loop .i) (c .before .before .before .before .before .args .n) (c .before .loop-test .taken) (c .before .before .loop .inv .0))
+add-less-products c = omega (arith, row-in (c .before))
 
 mul-less-products-2 : tie.Need-mul-less-products-2 Inv-loop μ-loop
 mul-less-products-2 c =
-    let start = c .before .before .before .before .before in
-    let h = row-end (c .before .before .loop .i) (start .args .n) (c .before .loop-test .taken) (c .before .before .loop .inv .0) in let g : (c .before .before .loop .end - start .args .n) + c .before .before .loop .i ≤ length (start .args .factors .now) = omega arith in search needs
+    let s : tie.Start Inv-loop μ-loop = search in
+    let l = c .before .before .loop in
+    let g : (l .end - s .args .n) + l .i ≤ length (s .args .factors .now) = omega (arith, row-in (c .before)) in
+    search needs
 
 sub-less-products : tie.Need-sub-less-products Inv-loop μ-loop
-sub-less-products c = omega (arith, row-end (c .before .before .loop .i) (c .before .before .before .before .before .args .n) (c .before .loop-test .taken) (c .before .before .loop .inv .0))
+sub-less-products c = omega (arith, row-in (c .before))
 
 part-less-products-start : tie.Need-part-less-products-start Inv-loop μ-loop
-part-less-products-start c = omega (arith, row-end (c .before .before .loop .i) (c .before .before .before .before .before .args .n) (c .before .loop-test .taken) (c .before .before .loop .inv .0))
+part-less-products-start c = omega (arith, row-in (c .before))
 
 part-less-products-end : tie.Need-part-less-products-end Inv-loop μ-loop
-part-less-products-end c = omega (arith, row-end (c .before .before .loop .i) (c .before .before .before .before .before .args .n) (c .before .loop-test .taken) (c .before .before .loop .inv .0))
+part-less-products-end c = row-in (c .before) .1
 
 mul-less-products-3 : tie.Need-mul-less-products-3 Inv-loop μ-loop
 mul-less-products-3 c = search needs
@@ -64,29 +80,30 @@ part-less-products-end-2 c = search needs
 
 less-products-requires : tie.Need-less-products-requires Inv-loop μ-loop
 less-products-requires c κs =
-    let start = c .before .before .before .before .before .before .before .before in
-    let turn = c .before .before .before .before .before in
-    let n = start .args .n in
-    let i = turn .loop .i in
-    let end = turn .loop .end in
-    let h = row-end i n (c .before .before .before .before .loop-test .taken) (turn .loop .inv .0) in
-    same-parts (end - ((end - n) + i)) ((end - n) + i) (n - i) i (start .args .factors .now) (turn .loop .x) (omega arith) (omega arith) (omega arith)
+    let begun : tie.In-loop Inv-loop μ-loop = search in
+    let s = start begun in
+    let l = begun .before .loop in
+    let at = (l .end - s .args .n) + l .i in
+    let h = row-in begun in
+    same-parts (l .end - at) at (s .args .n - l .i) (l .i) (s .args .factors .now) (l .x) (omega arith) (omega arith) (omega arith)
 
 add-x : tie.Need-add-x Inv-loop μ-loop
 add-x c =
-    let turn = c .before .before .before .before .before .before in
-    omega (arith, row-end (turn .loop .i) (c .before .before .before .before .before .before .before .before .before .args .n) (c .before .before .before .before .before .loop-test .taken) (turn .loop .inv .0))
+    let begun : tie.In-loop Inv-loop μ-loop = search in
+    omega (arith, row-in begun)
 
 mul-x : tie.Need-mul-x Inv-loop μ-loop
 mul-x c =
-    let start = c .before .before .before .before .before .before .before .before .before in
-    let turn = c .before .before .before .before .before .before in
-    let h = row-end (turn .loop .i) (start .args .n) (c .before .before .before .before .before .loop-test .taken) (turn .loop .inv .0) in let g : (turn .loop .end - start .args .n) + (turn .loop .i - 1) < length (start .args .factors .now) = omega arith in search needs
+    let begun : tie.In-loop Inv-loop μ-loop = search in
+    let s = start begun in
+    let l = begun .before .loop in
+    let g : (l .end - s .args .n) + (l .i - 1) < length (s .args .factors .now) = omega (arith, row-in begun) in
+    search needs
 
 shared-slice-read-x : tie.Need-shared-slice-read-x Inv-loop μ-loop
 shared-slice-read-x c =
-    let turn = c .before .before .before .before .before .before .before in
-    omega (arith, row-end (turn .loop .i) (c .before .before .before .before .before .before .before .before .before .before .args .n) (c .before .before .before .before .before .before .loop-test .taken) (turn .loop .inv .0))
+    let begun : tie.In-loop Inv-loop μ-loop = search in
+    omega (arith, row-in begun)
 
 mul-x-2 : tie.Need-mul-x-2 Inv-loop μ-loop
 mul-x-2 c = search needs
@@ -99,22 +116,22 @@ loop-less c = search needs
 
 loop-again : tie.Need-loop-again Inv-loop μ-loop
 loop-again c =
-    let start = c .before .before .before .before .before .before .before .before .before .before in
-    let turn = c .before .before .before .before .before .before .before in
-    let at-loop-test = c .before .before .before .before .before .before in
-    let n = start .args .n in
-    let i = turn .loop .i in (
-      omega arith,
-      simp length-set (turn .loop .inv .1),
-      row-before i n (turn .loop .end) (at-loop-test .loop-test .taken) (turn .loop .inv .2),
-      turn .loop .inv .3 ∙ backward-more n (start .args .factors .now) i (turn .loop .end) (turn .loop .x) (c .before .less-products .result) (at-loop-test .loop-test .taken) (turn .loop .inv .0) (turn .loop .inv .1) (turn .loop .inv .2) (c .before .less-products .ensures),
-    )
+    let begun : tie.In-loop Inv-loop μ-loop = search in
+    let s = start begun in
+    let l = begun .before .loop in
+    let taken = begun .loop-test .taken in
+    let v = c .before .less-products in
+    let more = backward-more (s .args .n) (s .args .factors .now) (l .i) (l .end) (l .x) (v .result) taken (l .inv .0) (l .inv .1) (l .inv .2) (v .ensures) in
+    (omega arith, simp length-set (l .inv .1), row-before (l .i) (s .args .n) (l .end) taken (l .inv .2), l .inv .3 ∙ more)
 
 same-length : tie.Need-same-length Inv-loop μ-loop
 same-length c = search needs
 
 returns : tie.Need-returns Inv-loop μ-loop
-returns c = sym (c .before .loop .inv .3 ∙ backward-end (c .before .before .before .before .args .n) (c .before .before .before .before .args .factors .now) (c .before .loop .i) (c .before .loop .x) (omega arith))
+returns c =
+    let s : tie.Start Inv-loop μ-loop = search in
+    let l = c .before .loop in
+    sym (l .inv .3 ∙ backward-end (s .args .n) (s .args .factors .now) (l .i) (l .x) (omega arith))
 
 pub substitute-backward-spec : {M : Type 1} → statement M
 substitute-backward-spec =

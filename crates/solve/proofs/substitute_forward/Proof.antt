@@ -18,7 +18,10 @@ abbrev μ-loop : tie.MeasureT-loop
 μ-loop n factors x₀ i₀ at₀ x i at = n - i
 
 loop-holds : tie.Need-loop-holds Inv-loop μ-loop
-loop-holds c = (omega arith, c .before .before .pre .1, omega arith, ap (λ (j : ℕ). forward (c .before .before .args .n) (c .before .before .args .factors .now) j 0 (c .before .before .args .x .now)) (sym (sub-zero (c .before .before .args .n))))
+loop-holds c =
+    let s : tie.Start Inv-loop μ-loop = search in
+    let n = s .args .n in
+    (omega arith, s .pre .1, omega arith, ap (λ (j : ℕ). forward n (s .args .factors .now) j 0 (s .args .x .now)) (sym (sub-zero n)))
 
 mul-less-products : tie.Need-mul-less-products Inv-loop μ-loop
 mul-less-products c = search needs
@@ -27,21 +30,22 @@ slice-read-less-products : tie.Need-slice-read-less-products Inv-loop μ-loop
 slice-read-less-products c = search needs
 
 add-less-products : tie.Need-add-less-products Inv-loop μ-loop
-add-less-products c = omega (arith, inside (c .before .before .loop .i) (c .before .before .before .before .before .args .n) (c .before .loop-test .taken))
+add-less-products c = omega (arith, inside (c .before .loop-test .taken))
 
 mul-less-products-2 : tie.Need-mul-less-products-2 Inv-loop μ-loop
 mul-less-products-2 c =
-    let start = c .before .before .before .before .before in
-    let h = inside (c .before .before .loop .i) (start .args .n) (c .before .loop-test .taken) in let g : c .before .before .loop .at < length (start .args .factors .now) = omega arith in search needs
+    let s : tie.Start Inv-loop μ-loop = search in
+    let g : c .before .before .loop .at < length (s .args .factors .now) = omega (arith, inside (c .before .loop-test .taken)) in
+    search needs
 
 sub-less-products : tie.Need-sub-less-products Inv-loop μ-loop
 sub-less-products c = search needs
 
 part-less-products-start : tie.Need-part-less-products-start Inv-loop μ-loop
-part-less-products-start c = omega (arith, inside (c .before .before .loop .i) (c .before .before .before .before .before .args .n) (c .before .loop-test .taken))
+part-less-products-start c = omega (arith, inside (c .before .loop-test .taken))
 
 part-less-products-end : tie.Need-part-less-products-end Inv-loop μ-loop
-part-less-products-end c = omega (arith, inside (c .before .before .loop .i) (c .before .before .before .before .before .args .n) (c .before .loop-test .taken))
+part-less-products-end c = omega (arith, inside (c .before .loop-test .taken))
 
 sub-less-products-2 : tie.Need-sub-less-products-2 Inv-loop μ-loop
 sub-less-products-2 c = search needs
@@ -54,12 +58,12 @@ part-less-products-end-2 c = search needs
 
 less-products-requires : tie.Need-less-products-requires Inv-loop μ-loop
 less-products-requires c κs =
-    let start = c .before .before .before .before .before .before .before .before in
-    let turn = c .before .before .before .before .before in
-    let i = turn .loop .i in
-    let at = turn .loop .at in
-    let h = inside i (start .args .n) (c .before .before .before .before .loop-test .taken) in
-    same-parts ((at + i) - at) at (i - 0) 0 (start .args .factors .now) (turn .loop .x) (omega arith) (omega arith) (omega arith)
+    let s : tie.Start Inv-loop μ-loop = search in
+    let turn : tie.At-loop Inv-loop μ-loop = search in
+    let begun : tie.In-loop Inv-loop μ-loop = search in
+    let l = turn .loop in
+    let h = inside (begun .loop-test .taken) in
+    same-parts ((l .at + l .i) - l .at) (l .at) (l .i - 0) 0 (s .args .factors .now) (l .x) (omega arith) (omega arith) (omega arith)
 
 mul-x : tie.Need-mul-x Inv-loop μ-loop
 mul-x c = search needs
@@ -68,7 +72,9 @@ slice-write-x : tie.Need-slice-write-x Inv-loop μ-loop
 slice-write-x c = search needs
 
 add-at : tie.Need-add-at Inv-loop μ-loop
-add-at c = omega (arith, inside (c .before .before .before .before .before .before .loop .i) (c .before .before .before .before .before .before .before .before .before .args .n) (c .before .before .before .before .before .loop-test .taken))
+add-at c =
+    let begun : tie.In-loop Inv-loop μ-loop = search in
+    omega (arith, inside (begun .loop-test .taken))
 
 add-i : tie.Need-add-i Inv-loop μ-loop
 add-i c = search needs
@@ -78,21 +84,23 @@ loop-less c = search needs
 
 loop-again : tie.Need-loop-again Inv-loop μ-loop
 loop-again c =
-    let start = c .before .before .before .before .before .before .before .before .before in
-    let turn = c .before .before .before .before .before .before in
-    let n = start .args .n in
-    let i = turn .loop .i in (
-      omega arith,
-      simp length-set (turn .loop .inv .1),
-      omega (arith, next i n),
-      turn .loop .inv .3 ∙ forward-more n (start .args .factors .now) i (turn .loop .x) (turn .loop .at) (c .less-products .result) (c .before .before .before .before .before .loop-test .taken) (turn .loop .inv .2) (c .less-products .ensures),
-    )
+    let s : tie.Start Inv-loop μ-loop = search in
+    let turn : tie.At-loop Inv-loop μ-loop = search in
+    let begun : tie.In-loop Inv-loop μ-loop = search in
+    let n = s .args .n in
+    let l = turn .loop in
+    let v = c .less-products in
+    let more = forward-more n (s .args .factors .now) (l .i) (l .x) (l .at) (v .result) (begun .loop-test .taken) (l .inv .2) (v .ensures) in
+    (omega arith, simp length-set (l .inv .1), omega (arith, next (l .i) n), l .inv .3 ∙ more)
 
 same-length : tie.Need-same-length Inv-loop μ-loop
 same-length c = search needs
 
 returns : tie.Need-returns Inv-loop μ-loop
-returns c = sym (c .before .loop .inv .3 ∙ forward-end (c .before .before .before .before .args .n) (c .before .before .before .before .args .factors .now) (c .before .loop .i) (c .before .loop .x) (c .loop-test .left))
+returns c =
+    let s : tie.Start Inv-loop μ-loop = search in
+    let l = c .before .loop in
+    sym (l .inv .3 ∙ forward-end (s .args .n) (s .args .factors .now) (l .i) (l .x) (c .loop-test .left))
 
 pub substitute-forward-spec : {M : Type 1} → statement M
 substitute-forward-spec =

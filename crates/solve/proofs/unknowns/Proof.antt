@@ -9,25 +9,21 @@ copy-requires : tie.Need-copy-requires
 copy-requires c κs = search needs
 
 permute-requires : tie.Need-permute-requires
-permute-requires c κs = c .before .before .before .before .before .before .before .before .before .pre .1 ∙ sym (c .before .before .x .given ∙ c .before .before .before .before .before .before .before .before .before .pre .3)
+permute-requires c κs = search needs
 
 substitute-forward-requires : tie.Need-substitute-forward-requires
-substitute-forward-requires c κs =
-    let start = c .before .before .before .before .before .before .before .before .before .before .before .before .before in
-    (start .pre .0, c .before .before .x2 .given ∙ c .before .before .before .before .before .before .x .given ∙ start .pre .3)
+substitute-forward-requires c κs = search needs
 
 substitute-backward-requires : tie.Need-substitute-backward-requires
-substitute-backward-requires c κs =
-    let start = c .before .before .before .before .before .before .before .before .before .before .before .before .before .before .before .before .before in
-    (start .pre .0, c .before .before .x3 .given ∙ c .before .before .before .before .before .before .x2 .given ∙ c .before .before .before .before .before .before .before .before .before .before .x .given ∙ start .pre .3)
+substitute-backward-requires c κs = search needs
 
 same-length : tie.Need-same-length
 same-length c = search needs
 
 returns : tie.Need-returns
 returns c =
-    let start = c .before .before .before .before .before .before .before .before .before .before .before .before .before .before .before .before .before .before .before .before in
-    let e = overlaid-whole (start .args .x .now) (start .args .right .now) (start .pre .3 ∙ sym (start .pre .2)) in cc
+    let s : tie.Start = search in
+    cc (overlaid-whole (s .args .x .now) (s .args .right .now) (s .pre .3 ∙ sym (s .pre .2)))
 
 pub unknowns-spec : {M : Type 1} → statement M
 unknowns-spec =

@@ -1,34 +1,36 @@
--- `constrain`: the local J and WJ are the definition's; each way out is its case of the refusals after the tests. Assumes nothing.
+-- `constrain`: the local WJ is the definition's; each way out is its case of the refusals after the tests. Assumes nothing.
+use mathlib.Core.Path.{_∙_, ap, refl, sym}
 use borrow.Author.Tests.{not-true, not-false}
-use Rattle.unit_multibody_joint.proofs.Answers.{row-made, row-trouble, row-wild}
-use mathlib.Core.Path.{_∙_, sym}
+use lib.ListN.{length}
+use lib.Ieee.{nan}
+use lib.Seq.{getD-take}
+use Rattle.unit_multibody_joint.specs.Rows.{rowOf, refusedRow, finiteRow, rowAnswer, lhsAt}
+use Rattle.unit_multibody_joint.proofs.Answers.{in-trouble, not-finite, all-made}
 use borrow.Author.Needs.{needs}
 use Rattle.unit_multibody_joint.proofs.constrain.Statement.{statement}
 use Rattle.unit_multibody_joint.proofs.constrain.Tie as tie
 
-mul-unit : tie.Need-mul-unit
-mul-unit c = search needs
+abbrev start : tie.After-solve-any → tie.Start
+start c = c .before .before .before .before .before .before
 
-array-write-unit : tie.Need-array-write-unit
-array-write-unit c = search needs
+slice-aggregate-solve-any : tie.Need-slice-aggregate-solve-any
+slice-aggregate-solve-any c = search needs
 
-slice-aggregate-solve : tie.Need-slice-aggregate-solve
-slice-aggregate-solve c = search needs
-
-slice-aggregate-solve-2 : tie.Need-slice-aggregate-solve-2
-slice-aggregate-solve-2 c = search needs
-
-solve-requires : tie.Need-solve-requires
-solve-requires c κs = search needs
+solve-any-requires : tie.Need-solve-any-requires
+solve-any-requires c κs = search needs
 
 refused-row-requires : tie.Need-refused-row-requires
 refused-row-requires c κs = search needs
 
 returns : tie.Need-returns
+unfolding rowAnswer
 returns c =
-    let start = c .before .before .before .before .before .before .before .before .before in
-    let at-solve = c .before .before .before in
-    row-trouble (start .args .n) (start .args .at) (start .args .b) (start .args .cfm-coeff) (start .args .mass .now) (start .args .j .now) (start .args .wj .now) (at-solve .solve .last .1 .1 .1 .0) (at-solve .solve .result) (start .pre .0) (start .pre .1) (start .pre .2) (start .pre .3) (c .before .before .solved2 .given) (at-solve .solve .ensures) (c .before .if1 .taken) (c .refused-row .result) (c .refused-row .ensures)
+    let back = c .before .before in
+    let v = back .before .solve-any in
+    let s = start (back .before) in
+    let a = s .args in
+    in-trouble refusedRow finiteRow (λ w. rowOf (a .b) (a .cfm-coeff) (lhsAt (a .at) w)) (length (a .row .now)) (a .row .now) (a .mass .now) (a .j .now) (a .wj .now)
+    (s .pre .0) refl (s .pre .2) (v .last .1 .1 .1 .0) (v .result) (back .solved2 .given) (v .ensures) (c .before .if1 .taken) (c .refused-row .result) (c .refused-row .ensures)
 
 mul-row-of : tie.Need-mul-row-of
 mul-row-of c = search needs
@@ -46,37 +48,27 @@ refused-row-requires-2 : tie.Need-refused-row-requires-2
 refused-row-requires-2 c κs = search needs
 
 returns-2 : tie.Need-returns-2
+unfolding rowAnswer lhsAt
 returns-2 c =
-    let start = c .before .before .before .before .before .before .before .before .before .before .before .before in
-    let at-solve = c .before .before .before .before .before .before in
-    let at-solved2 = c .before .before .before .before .before in
-    let at-if1 = c .before .before .before .before in
-    let at-row-of = c .before .before .before in
-    row-wild (start .args .n) (start .args .at) (start .args .b) (start .args .cfm-coeff) (start .args .mass .now) (start .args .j .now) (start .args .wj .now) (at-solve .solve .last .1 .1 .1 .0) (at-solve .solve .result) (start .pre .0) (start .pre .1) (start .pre .2) (start .pre .3) (at-solved2 .solved2 .given) (at-solve .solve .ensures) (at-if1 .if1 .left) (at-row-of .row-of .result) (at-row-of .row-of .ensures) (sym (c .before .before .is-finite-row .ensures) ∙ not-true _ (c .before .if2 .taken)) (c .refused-row2 .result) (c .refused-row2 .ensures)
-
-sub-copy : tie.Need-sub-copy
-sub-copy c = search needs
-
-part-copy-start : tie.Need-part-copy-start
-part-copy-start c = search needs
-
-part-copy-end : tie.Need-part-copy-end
-part-copy-end c = search needs
+    let good : tie.Else1 = c .before .before .before .before in
+    let back = good .before in
+    let v = back .before .solve-any in
+    let s = start (back .before) in
+    let a = s .args in
+    let r = c .before .before .before .row-of in
+    let read = ap (rowOf (a .b) (a .cfm-coeff)) (sym (getD-take (length (a .row .now)) (v .last .1 .1 .1 .0) (a .at) nan (s .pre .1))) in
+    not-finite refusedRow finiteRow (λ w. rowOf (a .b) (a .cfm-coeff) (lhsAt (a .at) w)) (length (a .row .now)) (a .row .now) (a .mass .now) (a .j .now) (a .wj .now)
+    (s .pre .0) refl (s .pre .2) (v .last .1 .1 .1 .0) (v .result) (back .solved2 .given) (v .ensures) (good .if1 .left) (r .result) (r .ensures ∙ read)
+    (sym (c .before .before .is-finite-row .ensures) ∙ not-true _ (c .before .if2 .taken)) (c .refused-row2 .result) (c .refused-row2 .ensures)
 
 copy-requires : tie.Need-copy-requires
 copy-requires c κs = search needs
 
-sub-copy-2 : tie.Need-sub-copy-2
-sub-copy-2 c = search needs
+slice-aggregate-copy-part : tie.Need-slice-aggregate-copy-part
+slice-aggregate-copy-part c = search needs
 
-part-copy-start-2 : tie.Need-part-copy-start-2
-part-copy-start-2 c = search needs
-
-part-copy-end-2 : tie.Need-part-copy-end-2
-part-copy-end-2 c = search needs
-
-copy-requires-2 : tie.Need-copy-requires-2
-copy-requires-2 c κs = search needs
+copy-part-requires : tie.Need-copy-part-requires
+copy-part-requires c κs = search needs
 
 same-length : tie.Need-same-length
 same-length c = search needs
@@ -85,27 +77,28 @@ same-length-2 : tie.Need-same-length-2
 same-length-2 c = search needs
 
 returns-3 : tie.Need-returns-3
+unfolding rowAnswer lhsAt
 returns-3 c =
-    let start = c .before .before .before .before .before .before .before .before .before .before .before .before .before .before .before .before .before .before .before .before .before .before .before in
-    let at-solve = c .before .before .before .before .before .before .before .before .before .before .before .before .before .before .before .before .before in
-    let at-solved2 = c .before .before .before .before .before .before .before .before .before .before .before .before .before .before .before .before in
-    let at-if1 = c .before .before .before .before .before .before .before .before .before .before .before .before .before .before .before in
-    let at-row-of = c .before .before .before .before .before .before .before .before .before .before .before .before .before .before in
-    let at-is-finite-row = c .before .before .before .before .before .before .before .before .before .before .before .before .before in
-    let at-if2 = c .before .before .before .before .before .before .before .before .before .before .before .before in
-    let at-copy = c .before .before .before .before .before .before .before .before in
-    let at-copy2 = c .before .before in
-    row-made (start .args .n) (start .args .at) (start .args .b) (start .args .cfm-coeff) (start .args .mass .now) (start .args .j .now) (start .args .wj .now) (at-solve .solve .last .1 .1 .1 .0) (at-solve .solve .result) (start .pre .0) (start .pre .1) (start .pre .2) (start .pre .3) (at-solved2 .solved2 .given) (at-solve .solve .ensures) (at-if1 .if1 .left) (at-row-of .row-of .result) (at-row-of .row-of .ensures) (sym (at-is-finite-row .is-finite-row .ensures) ∙ not-false _ (at-if2 .if2 .left)) (start .pre .4) (start .pre .5) (at-copy .copy .last .0) (at-copy2 .copy2 .last .0) (at-copy .copy .ensures) (at-copy2 .copy2 .ensures)
+    let x : tie.After-copy = search in
+    let finite : tie.Else2 = x .before .before in
+    let good : tie.Else1 = finite .before .before .before in
+    let back = good .before in
+    let v = back .before .solve-any in
+    let s = start (back .before) in
+    let a = s .args in
+    let r = finite .before .before .row-of in
+    let read = ap (rowOf (a .b) (a .cfm-coeff)) (sym (getD-take (length (a .row .now)) (v .last .1 .1 .1 .0) (a .at) nan (s .pre .1))) in
+    let y = c .before .before .copy-part in
+    all-made refusedRow finiteRow (λ w. rowOf (a .b) (a .cfm-coeff) (lhsAt (a .at) w)) (length (a .row .now)) (a .row .now) (a .mass .now) (a .j .now) (a .wj .now)
+    (s .pre .0) refl (s .pre .2) (v .last .1 .1 .1 .0) (v .result) (back .solved2 .given) (v .ensures) (good .if1 .left) (r .result) (r .ensures ∙ read)
+    (sym (finite .before .is-finite-row .ensures) ∙ not-false _ (finite .if2 .left)) (s .pre .3) (s .pre .4) (x .copy .last .0) (y .last .0) (x .copy .ensures) (y .ensures)
 
 pub constrain-spec : {M : Type 1} → statement M
 constrain-spec =
     tie.close
     (tie.spec
-    mul-unit
-    array-write-unit
-    slice-aggregate-solve
-    slice-aggregate-solve-2
-    solve-requires
+    slice-aggregate-solve-any
+    solve-any-requires
     refused-row-requires
     returns
     mul-row-of
@@ -114,14 +107,9 @@ constrain-spec =
     is-finite-row-requires
     refused-row-requires-2
     returns-2
-    sub-copy
-    part-copy-start
-    part-copy-end
     copy-requires
-    sub-copy-2
-    part-copy-start-2
-    part-copy-end-2
-    copy-requires-2
+    slice-aggregate-copy-part
+    copy-part-requires
     same-length
     same-length-2
     returns-3)

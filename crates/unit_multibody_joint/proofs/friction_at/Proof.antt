@@ -1,12 +1,19 @@
 -- `friction_at`: the row's entries up to the DoF count, at the DoF; an axis as a byte has the same DoF. Assumes nothing.
-use Rattle.unit_multibody_joint.proofs.Parts.{friction-is}
+use Prim.Native.Nat.{_<_}
 use mathlib.Core.Path.{_∙_}
+use mathlib.Core.List.{[]}
 use native.Mathlib.Omega.{arith}
+use Rattle.arm.specs.declared.Row.{Row}
 use Rattle.arm.proofs.Shape.{rows-length}
+use Rattle.arm.proofs.Sized.{sized}
 use Rattle.arm.proofs.Live.{dof-count-le}
+use Rattle.unit_multibody_joint.proofs.Rows.{entries-length, friction-is}
 use borrow.Author.Needs.{needs}
 use Rattle.unit_multibody_joint.proofs.friction_at.Statement.{statement}
 use Rattle.unit_multibody_joint.proofs.friction_at.Tie as tie
+
+abbrev noRow : Row
+noRow = record { entries = [] }
 
 row-number-requires : tie.Need-row-number-requires
 row-number-requires c κs = search needs
@@ -17,26 +24,42 @@ mul-row c = search needs
 element-copy-out-row : tie.Need-element-copy-out-row
 element-copy-out-row c = search needs
 
+dof-count-requires : tie.Need-dof-count-requires
+dof-count-requires c κs = search needs
+
 axis-byte-requires : tie.Need-axis-byte-requires
 axis-byte-requires c κs = search needs
 
 dof-at-requires : tie.Need-dof-at-requires
 dof-at-requires c κs = search needs
 
-dof-count-requires : tie.Need-dof-count-requires
-dof-count-requires c κs = search needs
+sub-entry : tie.Need-sub-entry
+sub-entry c = search needs
 
-row-entry-requires : tie.Need-row-entry-requires
-row-entry-requires c κs = omega (arith, c .dof-count .ensures, dof-count-le (c .before .before .before .before .before .args .t1))
+part-entry-start : tie.Need-part-entry-start
+part-entry-start c = search needs
+
+part-entry-end : tie.Need-part-entry-end
+part-entry-end c =
+    let s : tie.Start = search in
+    let numbered : tie.After-row-number = search in
+    let counted : tie.After-dof-count = search in
+    let k : numbered .row-number .result < 5 = omega (arith, numbered .row-number .ensures) in
+    omega (arith, entries-length (s .args .t1) (sized (s .args .t1) (s .good .0)) (numbered .row-number .result) noRow k, counted .dof-count .ensures, dof-count-le (s .args .t1))
+
+entry-requires : tie.Need-entry-requires
+entry-requires c κs = search needs
 
 returns : tie.Need-returns
 returns c =
-    let start = c .before .before .before .before .before .before in
-    let at-row-number = c .before .before .before .before .before in
-    let at-axis-byte = c .before .before .before in
-    let at-dof-at = c .before .before in
-    let at-dof-count = c .before in
-    c .row-entry .ensures ∙ friction-is (start .args .t1) (start .args .link) (start .args .axis) _ (at-dof-count .dof-count .result) (at-row-number .row-number .result) (at-axis-byte .axis-byte .result) (at-dof-at .dof-at .result) (rows-length (start .args .t1) (start .good .0)) (at-dof-count .dof-count .ensures) (at-row-number .row-number .ensures) (at-axis-byte .axis-byte .ensures) (at-dof-at .dof-at .ensures)
+    let s : tie.Start = search in
+    let numbered : tie.After-row-number = search in
+    let counted : tie.After-dof-count = search in
+    let byte : tie.After-axis-byte = search in
+    let placed : tie.After-dof-at = search in
+    c .entry .ensures
+    ∙ friction-is (s .args .t1) (s .args .link) (s .args .axis) noRow (counted .dof-count .result) (numbered .row-number .result) (byte .axis-byte .result) (placed .dof-at .result)
+    (rows-length (s .args .t1) (s .good .0)) (counted .dof-count .ensures) (numbered .row-number .ensures) (byte .axis-byte .ensures) (placed .dof-at .ensures)
 
 pub friction-at-spec : {M : Type 1} → statement M
 friction-at-spec =
@@ -45,8 +68,11 @@ friction-at-spec =
     row-number-requires
     mul-row
     element-copy-out-row
+    dof-count-requires
     axis-byte-requires
     dof-at-requires
-    dof-count-requires
-    row-entry-requires
+    sub-entry
+    part-entry-start
+    part-entry-end
+    entry-requires
     returns)

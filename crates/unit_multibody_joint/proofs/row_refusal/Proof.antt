@@ -1,14 +1,12 @@
--- `row_refusal`: the definition, test by test; an axis as a byte is as free. Assumes nothing.
-use Rattle.unit_multibody_joint.proofs.Parts.{free-byte}
-use Rattle.unit_multibody_joint.specs.Refusals.{rowRefusal}
+-- `row_refusal`: the same list of tests; an axis as a byte is as free. Assumes nothing.
 use Prim.Native.Nat.{_≤_}
 use native.Mathlib.Omega.{arith}
-use Rattle.elimination.proofs.Rows.{square-mono}
 use Rattle.limits.specs.Limits.{dofLimit}
-use Rattle.refusal.specs.Refusal.{unlessOf}
+use Rattle.elimination.proofs.Rows.{square-mono}
 use Rattle.arm.specs.Arm.{maskAt}
-use Rattle.arm.proofs.Accepted.{own-then-arm}
 use Rattle.arm.proofs.Live.{dof-count-le}
+use Rattle.unit_multibody_joint.specs.Refusals.{rowRefusal}
+use Rattle.unit_multibody_joint.proofs.Rows.{free-byte}
 use borrow.Author.Needs.{needs}
 use Rattle.unit_multibody_joint.proofs.row_refusal.Statement.{statement}
 use Rattle.unit_multibody_joint.proofs.row_refusal.Tie as tie
@@ -16,14 +14,11 @@ use Rattle.unit_multibody_joint.proofs.row_refusal.Tie as tie
 dof-count-requires : tie.Need-dof-count-requires
 dof-count-requires c κs = search needs
 
-mul-nn : tie.Need-mul-nn
-mul-nn c = let few : c .dof-count .result ≤ dofLimit = omega (arith, c .dof-count .ensures, dof-count-le (c .before .before .args .arm)) in omega (arith, square-mono (c .dof-count .result) dofLimit few)
+mask-at-requires : tie.Need-mask-at-requires
+mask-at-requires c κs = search needs
 
 memory-fits-requires : tie.Need-memory-fits-requires
 memory-fits-requires c κs = search needs
-
-mask-at-requires : tie.Need-mask-at-requires
-mask-at-requires c κs = search needs
 
 unless-requires : tie.Need-unless-requires
 unless-requires c κs = search needs
@@ -46,6 +41,13 @@ is-free-requires c κs = search needs
 unless-requires-4 : tie.Need-unless-requires-4
 unless-requires-4 c κs = search needs
 
+mul-is-finite-part : tie.Need-mul-is-finite-part
+mul-is-finite-part c =
+    let s : tie.Start = search in
+    let counted : tie.After-dof-count = search in
+    let few : counted .dof-count .result ≤ dofLimit = omega (arith, counted .dof-count .ensures, dof-count-le (s .args .arm)) in
+    omega (arith, square-mono few)
+
 is-finite-part-requires : tie.Need-is-finite-part-requires
 is-finite-part-requires c κs = search needs
 
@@ -58,36 +60,26 @@ unless-requires-6 c κs = search needs
 arm-refusal-requires : tie.Need-arm-refusal-requires
 arm-refusal-requires c κs = search needs
 
-lower-requires : tie.Need-lower-requires
-lower-requires c κs = search needs
+slice-aggregate-lowest : tie.Need-slice-aggregate-lowest
+slice-aggregate-lowest c = search needs
 
-lower-requires-2 : tie.Need-lower-requires-2
-lower-requires-2 c κs = search needs
-
-lower-requires-3 : tie.Need-lower-requires-3
-lower-requires-3 c κs = search needs
-
-lower-requires-4 : tie.Need-lower-requires-4
-lower-requires-4 c κs = search needs
-
-lower-requires-5 : tie.Need-lower-requires-5
-lower-requires-5 c κs = search needs
-
-lower-requires-6 : tie.Need-lower-requires-6
-lower-requires-6 c κs = search needs
+lowest-requires : tie.Need-lowest-requires
+lowest-requires c κs = search needs
 
 returns : tie.Need-returns
 unfolding rowRefusal
-returns c = cc (own-then-arm (unlessOf (c .before .before .before .before .before .before .before .before .before .before .before .before .before .before .before .before .before .before .before .before .before .before .args .ordered) 10) (c .before .before .before .before .before .before .before .before .before .before .before .before .before .before .before .before .before .before .before .before .before .before .args .arm), free-byte (maskAt (c .before .before .before .before .before .before .before .before .before .before .before .before .before .before .before .before .before .before .before .before .before .before .args .arm) (c .before .before .before .before .before .before .before .before .before .before .before .before .before .before .before .before .before .before .before .before .before .before .args .link)) (c .before .before .before .before .before .before .before .before .before .before .before .before .before .before .before .before .before .before .before .before .before .before .args .axis) (c .before .before .before .before .before .before .before .before .before .before .before .before .axis-byte .result) (c .before .before .before .before .before .before .before .before .before .before .before .before .axis-byte .ensures))
+returns c =
+    let s : tie.Start = search in
+    let byte : tie.After-axis-byte = search in
+    cc (free-byte (maskAt (s .args .arm) (s .args .link)) (s .args .axis) (byte .axis-byte .result) (byte .axis-byte .ensures))
 
 pub row-refusal-spec : {M : Type 1} → statement M
 row-refusal-spec =
     tie.close
     (tie.spec
     dof-count-requires
-    mul-nn
-    memory-fits-requires
     mask-at-requires
+    memory-fits-requires
     unless-requires
     unless-requires-2
     is-axis-requires
@@ -95,14 +87,11 @@ row-refusal-spec =
     axis-byte-requires
     is-free-requires
     unless-requires-4
+    mul-is-finite-part
     is-finite-part-requires
     unless-requires-5
     unless-requires-6
     arm-refusal-requires
-    lower-requires
-    lower-requires-2
-    lower-requires-3
-    lower-requires-4
-    lower-requires-5
-    lower-requires-6
+    slice-aggregate-lowest
+    lowest-requires
     returns)
