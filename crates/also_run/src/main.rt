@@ -43,6 +43,7 @@ use planar::Rotation;
 use planar::identity;
 use planar::rotate;
 use refusal::lower;
+use root_change::Root;
 use root_change::change_root;
 use topology::Split;
 use unit_multibody_joint::Limits;
@@ -551,7 +552,7 @@ fn stepped(arm: Arm, tables: &mut [f32; TABLES]) -> Arm {
 }
 
 fn freed(arm: Arm, tables: &mut [f32; TABLES]) -> Arm {
-    let now = answered(change_root(arm, tables, 0, pose(0.8, 0.6, -1.0, 0.5)));
+    let now = answered(change_root(arm, tables, Root::Free(pose(0.8, 0.6, -1.0, 0.5))));
     print_dump(now);
     print_kin(now, tables);
     now

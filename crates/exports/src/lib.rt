@@ -15,6 +15,7 @@ ghost use Rattle.addition.specs.Addition.{linkAdded};
 ghost use Rattle.one_link_move.specs.declared.Change.the-variants.{Coordinate, Frames, Centre};
 ghost use Rattle.one_link_move.specs.Move.{linkMoved};
 ghost use Rattle.whole_step.specs.Step.{wholeStep};
+ghost use Rattle.root_change.specs.declared.Root.the-variants.{Free, Fixed};
 ghost use Rattle.root_change.specs.Root.{changedRoot};
 ghost use Rattle.arm_split.specs.Answers.{armPart};
 ghost use Rattle.exports.specs.Solved.{solvedBy};
@@ -33,6 +34,7 @@ use planar::Pose;
 use planar::Rotated;
 use refusal::Counted;
 use refusal::answer_count;
+use root_change::Root;
 use root_change::change_root;
 use topology::Split;
 
@@ -197,17 +199,17 @@ pub extern "C" fn giellavor_step(arm: Arm, tables: &mut [f32], dt: f32) -> Edite
 // The root is free at a pose. Refused: 1 to 5, 7 to 9, 12.
 #[no_mangle]
 pub extern "C" fn giellavor_free_root(arm: Arm, tables: &mut [f32], pose: Pose) -> Edited
-    ensures { λ e. ⌜ out e (now (tables .exit)) ≡ changedRoot arm (now (tables .entry)) 0 pose ⌝ }
+    ensures { λ e. ⌜ out e (now (tables .exit)) ≡ changedRoot arm (now (tables .entry)) (Free pose) ⌝ }
 {
-    change_root(arm, tables, 0, pose)
+    change_root(arm, tables, Root::Free(pose))
 }
 
 // The root is fixed at a pose. Refused: as above.
 #[no_mangle]
 pub extern "C" fn giellavor_fix_root(arm: Arm, tables: &mut [f32], pose: Pose) -> Edited
-    ensures { λ e. ⌜ out e (now (tables .exit)) ≡ changedRoot arm (now (tables .entry)) 7 pose ⌝ }
+    ensures { λ e. ⌜ out e (now (tables .exit)) ≡ changedRoot arm (now (tables .entry)) (Fixed pose) ⌝ }
 {
-    change_root(arm, tables, 7, pose)
+    change_root(arm, tables, Root::Fixed(pose))
 }
 
 // ---- Parts: each of a split's is an arm, worked out into tables of its own. Refused: 1 to 5, 7, 9, 12.
