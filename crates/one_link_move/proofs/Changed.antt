@@ -154,7 +154,8 @@ coordinate-angle axis value j w h = go (ltb 2 axis)
     go false = at (eqb axis 2) refl w
 
 -- a link with another joint and centre of mass
-inputs-finite : (l : Link) (joint : Joint) (centre : Point) → linkFinite l ≡ true → (jointFinite (l .joint) ≡ true → jointFinite joint ≡ true) → (finitePoint (l .centre) ≡ true → finitePoint centre ≡ true)
+inputs-finite : (l : Link) (joint : Joint) (centre : Point) → linkFinite l ≡ true → (jointFinite (l .joint) ≡ true → jointFinite joint ≡ true)
+    → (finitePoint (l .centre) ≡ true → finitePoint centre ≡ true)
     → linkFinite (withInputs l (l .parent) joint centre) ≡ true
 unfolding linkFinite
 inputs-finite l joint centre h f g =

@@ -159,7 +159,8 @@ module _ (a : Arm) (t : List Float) (sized : Sized a) (settled : Settled a t) (l
   fresh j h e =
       as-was j
       ∙ facts-of .fresh j h
-      ∙ new-same keptOps (parentAt ls) (inputsOf ls) (parentAt ls′) (inputsOf ls′) (state ls t) (state ls′ t) j (sym (parent-after j)) (inputs-kept j (not-link j h e) (not-child j h e)) (λ q. sym (as-was (parentAt ls j)))
+      ∙ new-same keptOps (parentAt ls) (inputsOf ls) (parentAt ls′) (inputsOf ls′) (state ls t) (state ls′ t) j (sym (parent-after j))
+      (inputs-kept j (not-link j h e) (not-child j h e)) (λ q. sym (as-was (parentAt ls j)))
 
   ready : Ready ls′ n b t
   ready = record {

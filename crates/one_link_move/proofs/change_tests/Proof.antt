@@ -48,11 +48,15 @@ is-finite-point-requires c κs = search needs
 
 returns : tie.Need-returns
 unfolding testsOf
-returns c = rw (c .before .before .before .before .before .change .given .1) (cc)
+returns c =
+    let at-change : tie.After-change = search in
+    rw (at-change .change .given .1) (cc)
 
 returns-2 : tie.Need-returns-2
 unfolding testsOf
-returns-2 c = rw (c .before .before .before .before .before .before .before .change2 .given .1) (cc)
+returns-2 c =
+    let at-change2 : tie.After-change2 = search in
+    rw (at-change2 .change2 .given .1) (cc)
 
 returns-3 : tie.Need-returns-3
 unfolding testsOf

@@ -37,14 +37,24 @@ loop-less : tie.Need-loop-less Inv-loop μ-loop
 loop-less c = search needs
 
 loop-again : tie.Need-loop-again Inv-loop μ-loop
-loop-again c = (omega arith, leaf-more (c .before .before .before .args .t1) (c .before .before .live-links .result) (c .before .before .before .args .link) (c .before .loop .i) _ (c .before .loop .ok) (omega arith) (omega (arith, c .before .before .live-links .ensures, c .before .before .before .good .0 .1 .0 .1)) (c .before .loop .inv .1))
+loop-again c =
+    let at-live-links : tie.After-live-links Inv-loop μ-loop = search in
+    let start : tie.Start Inv-loop μ-loop = search in (
+      omega arith,
+      leaf-more (start .args .t1) (at-live-links .live-links .result) (start .args .link) (c .before .loop .i) _ (c .before .loop .ok) (omega arith)
+          (omega (arith, at-live-links .live-links .ensures, start .good .0 .1 .0 .1)) (c .before .loop .inv .1),
+    )
 
 returns : tie.Need-returns Inv-loop μ-loop
 returns c =
-    let n = c .before .before .live-links .result in
-    let w : length (take n (c .before .before .before .args .t1)) ≡ n = length-take-le n (c .before .before .before .args .t1) (omega (arith, c .before .before .live-links .ensures, c .before .before .before .good .0 .1 .0 .1)) in
-    let e : c .before .loop .i ≡ length (take n (c .before .before .before .args .t1)) = omega arith in
-    c .before .loop .inv .1 ∙ ap (λ (k : ℕ). allBelow k (noChild (take n (c .before .before .before .args .t1)) (c .before .before .before .args .link))) e ∙ ap (λ (k : ℕ). leaf (take k (c .before .before .before .args .t1)) (c .before .before .before .args .link)) (c .before .before .live-links .ensures)
+    let at-live-links : tie.After-live-links Inv-loop μ-loop = search in
+    let start : tie.Start Inv-loop μ-loop = search in
+    let n = at-live-links .live-links .result in
+    let w : length (take n (start .args .t1)) ≡ n = length-take-le n (start .args .t1)
+    (omega (arith, at-live-links .live-links .ensures, start .good .0 .1 .0 .1)) in
+    let e : c .before .loop .i ≡ length (take n (start .args .t1)) = omega arith in
+    c .before .loop .inv .1 ∙ ap (λ (k : ℕ). allBelow k (noChild (take n (start .args .t1)) (start .args .link))) e
+    ∙ ap (λ (k : ℕ). leaf (take k (start .args .t1)) (start .args .link)) (at-live-links .live-links .ensures)
 
 pub is-leaf-spec : {M : Type 1} → statement M
 is-leaf-spec =

@@ -24,7 +24,10 @@ at-or-below-requires : tie.Need-at-or-below-requires
 at-or-below-requires c κs = search needs
 
 returns : tie.Need-returns
-returns c = c .at-or-below .ensures ∙ ap (λ (ps : List ℕ). marks ps (c .before .before .before .before .args .link)) (front _ _ (c .before .before .before .live-links .ensures) refl)
+returns c =
+    let at-live-links : tie.After-live-links = search in
+    let start : tie.Start = search in
+    c .at-or-below .ensures ∙ ap (λ (ps : List ℕ). marks ps (start .args .link)) (front _ _ (at-live-links .live-links .ensures) refl)
 
 pub marks-among-spec : {M : Type 1} → statement M
 marks-among-spec =

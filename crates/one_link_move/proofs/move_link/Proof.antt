@@ -10,8 +10,28 @@ use Rattle.arm.proofs.Shape.{links-length}
 use Rattle.full_working.specs.Outcome.{out}
 use Rattle.full_working.proofs.Refused.{refused}
 use borrow.Author.Needs.{needs}
+use Prim.Native.Nat.{_<_}
+use Rattle.limits.specs.Limits.{linkLimit}
 use Rattle.one_link_move.proofs.move_link.Statement.{statement}
 use Rattle.one_link_move.proofs.move_link.Tie as tie
+
+-- ---- seen from where the move is accepted
+
+abbrev begun : tie.Else1 → tie.Start
+begun c = search
+
+abbrev asked : tie.Else1 → tie.After-move-refusal
+asked c = search
+
+-- the link is within the limit
+within : (c : tie.Else1) → begun c .args .link < linkLimit
+within c =
+    within-limit (begun c .args .arm) (begun c .args .tables .now) (begun c .args .link) (begun c .args .change)
+    (sym (asked c .move-refusal .ensures) ∙ c .if1 .left)
+
+-- where it was accepted, seen from where a leaf was worked out
+abbrev accepted-leaf : tie.After-refresh-one → tie.Else1
+accepted-leaf c = search
 
 handed-in-requires : tie.Need-handed-in-requires
 handed-in-requires c κs = search needs
@@ -28,14 +48,16 @@ same-length c = search needs
 returns : tie.Need-returns
 unfolding linkMoved
 returns c =
-    ap (λ (e : Edited). out e (c .before .before .before .before .before .before .before .args .tables .now)) (c .answer .ensures)
-    ∙ refused (c .before .before .before .move-refusal .ensures) (c .before .before .before .before .before .before .before .args .arm) (c .before .before .before .before .before .before .before .args .tables .now) (c .before .if1 .taken) _
+    let at-move-refusal : tie.After-move-refusal = search in
+    let start : tie.Start = search in
+    ap (λ (e : Edited). out e (start .args .tables .now)) (c .answer .ensures)
+    ∙ refused (at-move-refusal .move-refusal .ensures) (start .args .arm) (start .args .tables .now) (c .before .if1 .taken) _
 
 mul-l : tie.Need-mul-l
-mul-l c = omega (arith, within-limit (c .before .before .before .before .before .before .before .args .arm) (c .before .before .before .before .before .before .before .args .tables .now) (c .before .before .before .before .before .before .before .args .link) (c .before .before .before .before .before .before .before .args .change) (sym (c .before .before .before .move-refusal .ensures) ∙ c .before .if1 .left))
+mul-l c = omega (arith, within (c .before))
 
 array-copy-out-l : tie.Need-array-copy-out-l
-array-copy-out-l c = omega (arith, within-limit (c .before .before .before .before .before .before .before .args .arm) (c .before .before .before .before .before .before .before .args .tables .now) (c .before .before .before .before .before .before .before .args .link) (c .before .before .before .before .before .before .before .args .change) (sym (c .before .before .before .move-refusal .ensures) ∙ c .before .if1 .left))
+array-copy-out-l c = omega (arith, within (c .before))
 
 with-change-requires : tie.Need-with-change-requires
 with-change-requires c κs = search needs
@@ -50,10 +72,14 @@ fewer-requires : tie.Need-fewer-requires
 fewer-requires c κs = search needs
 
 mul-above : tie.Need-mul-above
-mul-above c = omega (arith, within-limit (c .before .before .before .before .before .before .before .before .before .before .before .before .before .before .args .arm) (c .before .before .before .before .before .before .before .before .before .before .before .before .before .before .args .tables .now) (c .before .before .before .before .before .before .before .before .before .before .before .before .before .before .args .link) (c .before .before .before .before .before .before .before .before .before .before .before .before .before .before .args .change) (sym (c .before .before .before .before .before .before .before .before .before .before .move-refusal .ensures) ∙ c .before .before .before .before .before .before .before .before .if1 .left), c .fewer .ensures)
+mul-above c =
+    let accepted : tie.Else1 = search in
+    omega (arith, within accepted, c .fewer .ensures)
 
 array-copy-out-above : tie.Need-array-copy-out-above
-array-copy-out-above c = omega (arith, within-limit (c .before .before .before .before .before .before .before .before .before .before .before .before .before .before .args .arm) (c .before .before .before .before .before .before .before .before .before .before .before .before .before .before .args .tables .now) (c .before .before .before .before .before .before .before .before .before .before .before .before .before .before .args .link) (c .before .before .before .before .before .before .before .before .before .before .before .before .before .before .args .change) (sym (c .before .before .before .before .before .before .before .before .before .before .move-refusal .ensures) ∙ c .before .before .before .before .before .before .before .before .if1 .left), c .fewer .ensures)
+array-copy-out-above c =
+    let accepted : tie.Else1 = search in
+    omega (arith, within accepted, c .fewer .ensures)
 
 start-among-requires : tie.Need-start-among-requires
 start-among-requires c κs = search needs
@@ -69,15 +95,33 @@ same-length-2 c = search needs
 
 returns-2 : tie.Need-returns-2
 returns-2 c =
-    alone-off (c .before .before .before .before .before .before .before .before .before .before .before .before .before .before .before .before .before .before .before .before .before .before .before .args .arm) (links-length (c .before .before .before .before .before .before .before .before .before .before .before .before .before .before .before .before .before .before .before .before .before .before .before .args .arm) (c .before .before .before .before .before .before .before .before .before .before .before .before .before .before .before .before .before .before .before .before .before .before .before .good .0)) (c .before .before .before .before .before .before .before .before .before .before .before .before .before .before .before .before .before .before .before .before .before .before .before .args .tables .now) (c .before .before .before .before .before .before .before .before .before .before .before .before .before .before .before .before .before .before .before .before .before .before .before .args .link) (c .before .before .before .before .before .before .before .before .before .before .before .before .before .before .before .before .before .before .before .before .before .before .before .args .change) _ (c .before .before .before .before .before .before .before .before .before .before .before .before .before .before .before .before .before .before .before .move-refusal .ensures) (c .before .before .before .before .before .before .before .before .before .before .before .before .before .before .before .before .before .if1 .left) (c .before .before .before .before .before .before .before .before .before .before .before .before .before .before .before .before .before .before .before .before .before .handed-in .result) (c .before .before .before .before .before .before .before .before .before .before .before .before .before .before .before .before .before .before .before .before .before .handed-in .ensures) _ (c .before .before .before .before .before .before .before .before .before .before .before .before .before .before .with-change .result) (c .before .before .before .before .before .before .before .before .before .before .before .before .before .before .with-change .ensures)
-    (sym (c .before .before .before .before .before .before .before .before .before .before .before .before .before .is-leaf .ensures) ∙ c .before .before .before .before .before .before .before .before .before .before .before .before .if2 .taken) (c .before .before .before .before .before .before .before .before .before .fewer .result) (c .before .before .before .before .before .before .before .before .before .fewer .ensures) _ _ refl (c .before .before .before .before .before .before .before .start-among .result) (c .before .before .before .before .before .before .before .start-among .ensures) (c .before .before .before .before .before .refresh-one .result) _ (c .before .before .before .before .before .refresh-one .ensures)
-    (not-true (c .before .before .before .before .before .refresh-one .result .fine) (c .before .if3 .taken)) _ (c .answer2 .ensures)
+    let at-refresh-one : tie.After-refresh-one = search in
+    let at-start-among : tie.After-start-among = search in
+    let at-fewer : tie.After-fewer = search in
+    let leaf : tie.Then2 = search in
+    let at-is-leaf : tie.After-is-leaf = search in
+    let at-with-change : tie.After-with-change = search in
+    let accepted : tie.Else1 = search in
+    let at-move-refusal : tie.After-move-refusal = search in
+    let at-handed-in : tie.After-handed-in = search in
+    let start : tie.Start = search in
+    alone-off (start .args .arm) (links-length (start .args .arm) (start .good .0)) (start .args .tables .now) (start .args .link)
+    (start .args .change) _ (at-move-refusal .move-refusal .ensures) (accepted .if1 .left) (at-handed-in .handed-in .result)
+    (at-handed-in .handed-in .ensures) _ (at-with-change .with-change .result) (at-with-change .with-change .ensures)
+    (sym (at-is-leaf .is-leaf .ensures) ∙ leaf .if2 .taken) (at-fewer .fewer .result) (at-fewer .fewer .ensures) _ _ refl
+    (at-start-among .start-among .result) (at-start-among .start-among .ensures) (at-refresh-one .refresh-one .result) _
+    (at-refresh-one .refresh-one .ensures)
+    (not-true (at-refresh-one .refresh-one .result .fine) (c .before .if3 .taken)) _ (c .answer2 .ensures)
 
 mul-links : tie.Need-mul-links
-mul-links c = omega (arith, within-limit (c .before .before .before .before .before .before .before .before .before .before .before .before .before .before .before .before .before .before .before .before .before .before .before .args .arm) (c .before .before .before .before .before .before .before .before .before .before .before .before .before .before .before .before .before .before .before .before .before .before .before .args .tables .now) (c .before .before .before .before .before .before .before .before .before .before .before .before .before .before .before .before .before .before .before .before .before .before .before .args .link) (c .before .before .before .before .before .before .before .before .before .before .before .before .before .before .before .before .before .before .before .before .before .before .before .args .change) (sym (c .before .before .before .before .before .before .before .before .before .before .before .before .before .before .before .before .before .before .before .move-refusal .ensures) ∙ c .before .before .before .before .before .before .before .before .before .before .before .before .before .before .before .before .before .if1 .left))
+mul-links c =
+    let at-refresh-one : tie.After-refresh-one = search in
+    omega (arith, within (accepted-leaf at-refresh-one))
 
 array-set-from-links : tie.Need-array-set-from-links
-array-set-from-links c = omega (arith, within-limit (c .before .before .before .before .before .before .before .before .before .before .before .before .before .before .before .before .before .before .before .before .before .before .before .args .arm) (c .before .before .before .before .before .before .before .before .before .before .before .before .before .before .before .before .before .before .before .before .before .before .before .args .tables .now) (c .before .before .before .before .before .before .before .before .before .before .before .before .before .before .before .before .before .before .before .before .before .before .before .args .link) (c .before .before .before .before .before .before .before .before .before .before .before .before .before .before .before .before .before .before .before .before .before .before .before .args .change) (sym (c .before .before .before .before .before .before .before .before .before .before .before .before .before .before .before .before .before .before .before .move-refusal .ensures) ∙ c .before .before .before .before .before .before .before .before .before .before .before .before .before .before .before .before .before .if1 .left))
+array-set-from-links c =
+    let at-refresh-one : tie.After-refresh-one = search in
+    omega (arith, within (accepted-leaf at-refresh-one))
 
 answer-requires-3 : tie.Need-answer-requires-3
 answer-requires-3 c κs = search needs
@@ -87,15 +131,34 @@ same-length-3 c = search needs
 
 returns-3 : tie.Need-returns-3
 returns-3 c =
-    alone-on (c .before .before .before .before .before .before .before .before .before .before .before .before .before .before .before .before .before .before .before .before .before .before .before .before .args .arm) (links-length (c .before .before .before .before .before .before .before .before .before .before .before .before .before .before .before .before .before .before .before .before .before .before .before .before .args .arm) (c .before .before .before .before .before .before .before .before .before .before .before .before .before .before .before .before .before .before .before .before .before .before .before .before .good .0)) (c .before .before .before .before .before .before .before .before .before .before .before .before .before .before .before .before .before .before .before .before .before .before .before .before .args .tables .now) (c .before .before .before .before .before .before .before .before .before .before .before .before .before .before .before .before .before .before .before .before .before .before .before .before .args .link) (c .before .before .before .before .before .before .before .before .before .before .before .before .before .before .before .before .before .before .before .before .before .before .before .before .args .change) _ (c .before .before .before .before .before .before .before .before .before .before .before .before .before .before .before .before .before .before .before .before .move-refusal .ensures) (c .before .before .before .before .before .before .before .before .before .before .before .before .before .before .before .before .before .before .if1 .left) (c .before .before .before .before .before .before .before .before .before .before .before .before .before .before .before .before .before .before .before .before .before .before .handed-in .result) (c .before .before .before .before .before .before .before .before .before .before .before .before .before .before .before .before .before .before .before .before .before .before .handed-in .ensures) _ (c .before .before .before .before .before .before .before .before .before .before .before .before .before .before .before .with-change .result) (c .before .before .before .before .before .before .before .before .before .before .before .before .before .before .before .with-change .ensures)
-    (sym (c .before .before .before .before .before .before .before .before .before .before .before .before .before .before .is-leaf .ensures) ∙ c .before .before .before .before .before .before .before .before .before .before .before .before .before .if2 .taken) (c .before .before .before .before .before .before .before .before .before .before .fewer .result) (c .before .before .before .before .before .before .before .before .before .before .fewer .ensures) _ _ refl (c .before .before .before .before .before .before .before .before .start-among .result) (c .before .before .before .before .before .before .before .before .start-among .ensures) (c .before .before .before .before .before .before .refresh-one .result) _ (c .before .before .before .before .before .before .refresh-one .ensures)
-    (not-false (c .before .before .before .before .before .before .refresh-one .result .fine) (c .before .before .if3 .left)) _ (c .answer3 .ensures)
+    let is-fine : tie.Else3 = search in
+    let at-refresh-one : tie.After-refresh-one = search in
+    let at-start-among : tie.After-start-among = search in
+    let at-fewer : tie.After-fewer = search in
+    let leaf : tie.Then2 = search in
+    let at-is-leaf : tie.After-is-leaf = search in
+    let at-with-change : tie.After-with-change = search in
+    let accepted : tie.Else1 = search in
+    let at-move-refusal : tie.After-move-refusal = search in
+    let at-handed-in : tie.After-handed-in = search in
+    let start : tie.Start = search in
+    alone-on (start .args .arm) (links-length (start .args .arm) (start .good .0)) (start .args .tables .now) (start .args .link)
+    (start .args .change) _ (at-move-refusal .move-refusal .ensures) (accepted .if1 .left) (at-handed-in .handed-in .result)
+    (at-handed-in .handed-in .ensures) _ (at-with-change .with-change .result) (at-with-change .with-change .ensures)
+    (sym (at-is-leaf .is-leaf .ensures) ∙ leaf .if2 .taken) (at-fewer .fewer .result) (at-fewer .fewer .ensures) _ _ refl
+    (at-start-among .start-among .result) (at-start-among .start-among .ensures) (at-refresh-one .refresh-one .result) _
+    (at-refresh-one .refresh-one .ensures)
+    (not-false (at-refresh-one .refresh-one .result .fine) (is-fine .if3 .left)) _ (c .answer3 .ensures)
 
 mul-links-2 : tie.Need-mul-links-2
-mul-links-2 c = omega (arith, within-limit (c .before .before .before .before .before .before .before .before .before .before .before .args .arm) (c .before .before .before .before .before .before .before .before .before .before .before .args .tables .now) (c .before .before .before .before .before .before .before .before .before .before .before .args .link) (c .before .before .before .before .before .before .before .before .before .before .before .args .change) (sym (c .before .before .before .before .before .before .before .move-refusal .ensures) ∙ c .before .before .before .before .before .if1 .left))
+mul-links-2 c =
+    let accepted : tie.Else1 = search in
+    omega (arith, within accepted)
 
 array-set-from-links-2 : tie.Need-array-set-from-links-2
-array-set-from-links-2 c = omega (arith, within-limit (c .before .before .before .before .before .before .before .before .before .before .before .args .arm) (c .before .before .before .before .before .before .before .before .before .before .before .args .tables .now) (c .before .before .before .before .before .before .before .before .before .before .before .args .link) (c .before .before .before .before .before .before .before .before .before .before .before .args .change) (sym (c .before .before .before .before .before .before .before .move-refusal .ensures) ∙ c .before .before .before .before .before .if1 .left))
+array-set-from-links-2 c =
+    let accepted : tie.Else1 = search in
+    omega (arith, within accepted)
 
 marks-among-requires : tie.Need-marks-among-requires
 marks-among-requires c κs = search needs
@@ -111,15 +174,30 @@ same-length-4 c = search needs
 
 returns-4 : tie.Need-returns-4
 returns-4 c =
-    below-on (c .before .before .before .before .before .before .before .before .before .before .before .before .before .before .before .before .before .before .before .args .arm) (links-length (c .before .before .before .before .before .before .before .before .before .before .before .before .before .before .before .before .before .before .before .args .arm) (c .before .before .before .before .before .before .before .before .before .before .before .before .before .before .before .before .before .before .before .good .0)) (c .before .before .before .before .before .before .before .before .before .before .before .before .before .before .before .before .before .before .before .args .tables .now) (c .before .before .before .before .before .before .before .before .before .before .before .before .before .before .before .before .before .before .before .args .link) (c .before .before .before .before .before .before .before .before .before .before .before .before .before .before .before .before .before .before .before .args .change) _ (c .before .before .before .before .before .before .before .before .before .before .before .before .before .before .before .move-refusal .ensures) (c .before .before .before .before .before .before .before .before .before .before .before .before .before .if1 .left) (c .before .before .before .before .before .before .before .before .before .before .before .before .before .before .before .before .before .handed-in .result) (c .before .before .before .before .before .before .before .before .before .before .before .before .before .before .before .before .before .handed-in .ensures) _ (c .before .before .before .before .before .before .before .before .before .before .with-change .result) (c .before .before .before .before .before .before .before .before .before .before .with-change .ensures)
-    (c .before .before .before .before .before .before .before .marks-among .result) (c .before .before .before .before .before .before .before .marks-among .ensures) (c .before .before .before .before .before .refresh-marked .result) _ (c .before .before .before .before .before .refresh-marked .ensures)
-    (c .before .before .if4 .taken) _ (c .answer4 .ensures)
+    let is-fine : tie.Then4 = search in
+    let at-refresh-marked : tie.After-refresh-marked = search in
+    let at-marks-among : tie.After-marks-among = search in
+    let at-with-change : tie.After-with-change = search in
+    let accepted : tie.Else1 = search in
+    let at-move-refusal : tie.After-move-refusal = search in
+    let at-handed-in : tie.After-handed-in = search in
+    let start : tie.Start = search in
+    below-on (start .args .arm) (links-length (start .args .arm) (start .good .0)) (start .args .tables .now) (start .args .link)
+    (start .args .change) _ (at-move-refusal .move-refusal .ensures) (accepted .if1 .left) (at-handed-in .handed-in .result)
+    (at-handed-in .handed-in .ensures) _ (at-with-change .with-change .result) (at-with-change .with-change .ensures)
+    (at-marks-among .marks-among .result) (at-marks-among .marks-among .ensures) (at-refresh-marked .refresh-marked .result) _
+    (at-refresh-marked .refresh-marked .ensures)
+    (is-fine .if4 .taken) _ (c .answer4 .ensures)
 
 mul-links-3 : tie.Need-mul-links-3
-mul-links-3 c = omega (arith, within-limit (c .before .before .before .before .before .before .before .before .before .before .before .before .before .before .before .before .before .args .arm) (c .before .before .before .before .before .before .before .before .before .before .before .before .before .before .before .before .before .args .tables .now) (c .before .before .before .before .before .before .before .before .before .before .before .before .before .before .before .before .before .args .link) (c .before .before .before .before .before .before .before .before .before .before .before .before .before .before .before .before .before .args .change) (sym (c .before .before .before .before .before .before .before .before .before .before .before .before .before .move-refusal .ensures) ∙ c .before .before .before .before .before .before .before .before .before .before .before .if1 .left))
+mul-links-3 c =
+    let accepted : tie.Else1 = search in
+    omega (arith, within accepted)
 
 array-set-from-links-3 : tie.Need-array-set-from-links-3
-array-set-from-links-3 c = omega (arith, within-limit (c .before .before .before .before .before .before .before .before .before .before .before .before .before .before .before .before .before .args .arm) (c .before .before .before .before .before .before .before .before .before .before .before .before .before .before .before .before .before .args .tables .now) (c .before .before .before .before .before .before .before .before .before .before .before .before .before .before .before .before .before .args .link) (c .before .before .before .before .before .before .before .before .before .before .before .before .before .before .before .before .before .args .change) (sym (c .before .before .before .before .before .before .before .before .before .before .before .before .before .move-refusal .ensures) ∙ c .before .before .before .before .before .before .before .before .before .before .before .if1 .left))
+array-set-from-links-3 c =
+    let accepted : tie.Else1 = search in
+    omega (arith, within accepted)
 
 answer-requires-5 : tie.Need-answer-requires-5
 answer-requires-5 c κs = search needs
@@ -129,8 +207,18 @@ same-length-5 c = search needs
 
 returns-5 : tie.Need-returns-5
 returns-5 c =
-    below-off (c .before .before .before .before .before .before .before .before .before .before .before .before .before .before .before .before .before .before .args .arm) (links-length (c .before .before .before .before .before .before .before .before .before .before .before .before .before .before .before .before .before .before .args .arm) (c .before .before .before .before .before .before .before .before .before .before .before .before .before .before .before .before .before .before .good .0)) (c .before .before .before .before .before .before .before .before .before .before .before .before .before .before .before .before .before .before .args .tables .now) (c .before .before .before .before .before .before .before .before .before .before .before .before .before .before .before .before .before .before .args .link) (c .before .before .before .before .before .before .before .before .before .before .before .before .before .before .before .before .before .before .args .change) _ (c .before .before .before .before .before .before .before .before .before .before .before .before .before .before .move-refusal .ensures) (c .before .before .before .before .before .before .before .before .before .before .before .before .if1 .left) (c .before .before .before .before .before .before .before .before .before .before .before .before .before .before .before .before .handed-in .result) (c .before .before .before .before .before .before .before .before .before .before .before .before .before .before .before .before .handed-in .ensures) _ (c .before .before .before .before .before .before .before .before .before .with-change .result) (c .before .before .before .before .before .before .before .before .before .with-change .ensures)
-    (c .before .before .before .before .before .before .marks-among .result) (c .before .before .before .before .before .before .marks-among .ensures) (c .before .before .before .before .refresh-marked .result) _ (c .before .before .before .before .refresh-marked .ensures)
+    let at-refresh-marked : tie.After-refresh-marked = search in
+    let at-marks-among : tie.After-marks-among = search in
+    let at-with-change : tie.After-with-change = search in
+    let accepted : tie.Else1 = search in
+    let at-move-refusal : tie.After-move-refusal = search in
+    let at-handed-in : tie.After-handed-in = search in
+    let start : tie.Start = search in
+    below-off (start .args .arm) (links-length (start .args .arm) (start .good .0)) (start .args .tables .now) (start .args .link)
+    (start .args .change) _ (at-move-refusal .move-refusal .ensures) (accepted .if1 .left) (at-handed-in .handed-in .result)
+    (at-handed-in .handed-in .ensures) _ (at-with-change .with-change .result) (at-with-change .with-change .ensures)
+    (at-marks-among .marks-among .result) (at-marks-among .marks-among .ensures) (at-refresh-marked .refresh-marked .result) _
+    (at-refresh-marked .refresh-marked .ensures)
     (c .before .if4 .left) _ (c .answer5 .ensures)
 
 pub move-link-spec : {M : Type 1} → statement M

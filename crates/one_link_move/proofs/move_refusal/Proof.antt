@@ -56,18 +56,28 @@ lowest-requires c κs = search needs
 returns : tie.Need-returns
 unfolding moveRefusal testsOf
 returns c =
-    let at-unless3 = c .before .before .before .before .before .before .before in
-    let at-change-tests = at-unless3 .before .before .before .before .before .before .before in
-    let s = at-change-tests .before .before .before .before .before in
-    let w = links-length (s .args .arm) (s .good .0) in
-    let p = s .pre in
+    let at-unless7 : tie.After-unless7 = search in
+    let at-unless6 : tie.After-unless6 = search in
+    let at-unless5 : tie.After-unless5 = search in
+    let at-unless4 : tie.After-unless4 = search in
+    let at-unless3 : tie.After-unless3 = search in
+    let at-unless2 : tie.After-unless2 = search in
+    let at-unless : tie.After-unless = search in
+    let at-tables-fit : tie.After-tables-fit = search in
+    let at-is-finite-above : tie.After-is-finite-above = search in
+    let at-parent-among : tie.After-parent-among = search in
+    let at-change-tests : tie.After-change-tests = search in
+    let at-mask-among : tie.After-mask-among = search in
+    let start = at-mask-among .before .before .before .before in
+    let w = links-length (start .args .arm) (start .good .0) in
+    let p = start .pre in
     c .lowest .ensures
-    ∙ rw (at-unless3 .before .before .before .unless .ensures, at-unless3 .before .unless2 .ensures, at-unless3 .unless3 .ensures)
-    (rw (c .before .before .before .before .before .before .unless4 .ensures, c .before .before .before .before .unless5 .ensures)
-    (rw (c .before .before .before .unless6 .ensures, c .before .before .unless7 .ensures, at-unless3 .before .before .before .before .tables-fit .ensures)
-    (rw (at-unless3 .before .before .before .before .before .is-finite-above .ensures)
-    (rw (at-unless3 .before .before .before .before .before .before .parent-among .ensures, at-change-tests .change-tests .ensures)
-    (rw (at-change-tests .before .mask-among .ensures, found-mask, found-parents, found-refusal _ w _ p))))))
+    ∙ rw (at-unless .unless .ensures, at-unless2 .unless2 .ensures, at-unless3 .unless3 .ensures)
+    (rw (at-unless4 .unless4 .ensures, at-unless5 .unless5 .ensures)
+    (rw (at-unless6 .unless6 .ensures, at-unless7 .unless7 .ensures, at-tables-fit .tables-fit .ensures)
+    (rw (at-is-finite-above .is-finite-above .ensures)
+    (rw (at-parent-among .parent-among .ensures, at-change-tests .change-tests .ensures)
+    (rw (at-mask-among .mask-among .ensures, found-mask, found-parents, found-refusal _ w _ p))))))
 
 pub move-refusal-spec : {M : Type 1} → statement M
 move-refusal-spec =

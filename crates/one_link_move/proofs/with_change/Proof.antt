@@ -34,22 +34,25 @@ with-inputs-requires c κs = search needs
 returns : tie.Need-returns
 unfolding changed
 returns c =
-    let told = c .before .before .before in
-    let l = told .before .before .args .l in
+    let told : tie.After-change = search in
+    let start : tie.Start = search in
+    let l = start .args .l in
     c .with-joint .ensures ∙ ap (withJoint l) (c .before .with-coordinate .ensures) ∙ sym (ap (λ (h : Change). changed h l) (told .change .given .1))
 
 returns-2 : tie.Need-returns-2
 unfolding changed
 returns-2 c =
-    let told = c .before .before .before in
-    let l = told .before .before .args .l in
+    let told : tie.After-change2 = search in
+    let start : tie.Start = search in
+    let l = start .args .l in
     c .with-joint2 .ensures ∙ ap (withJoint l) (c .before .with-frames .ensures) ∙ sym (ap (λ (h : Change). changed h l) (told .change2 .given .1))
 
 returns-3 : tie.Need-returns-3
 unfolding changed
 returns-3 c =
-    let told = c .before .before in
-    let l = told .before .before .args .l in
+    let told : tie.After-change3 = search in
+    let start : tie.Start = search in
+    let l = start .args .l in
     c .with-inputs .ensures ∙ sym (ap (λ (h : Change). changed h l) (told .change3 .given .1))
 
 pub with-change-spec : {M : Type 1} → statement M

@@ -17,7 +17,10 @@ rotation-at-requires : tie.Need-rotation-at-requires
 rotation-at-requires c κs = search needs
 
 returns-2 : tie.Need-returns-2
-returns-2 c = angle (c .before .before .before .args .j) (c .before .before .before .args .axis) (c .before .before .before .args .value) _ (c .before .before .if1 .left) (c .before .if2 .taken) (c .rotation-at .ensures)
+returns-2 c =
+    let at-if1 : tie.Else1 = search in
+    let start : tie.Start = search in
+    angle (start .args .j) (start .args .axis) (start .args .value) _ (at-if1 .if1 .left) (c .before .if2 .taken) (c .rotation-at .ensures)
 
 returns-3 : tie.Need-returns-3
 returns-3 c = straight (c .before .before .args .j) (c .before .before .args .axis) (c .before .before .args .value) (c .before .if1 .left) (c .if2 .left)
