@@ -170,7 +170,8 @@ module _ (a : Arm) (sized : length (a .links) ≡ linkLimit) (t : List Float) (n
       let values = laid (dampingRow (new .locked)) zeros in
       let none : Row = record { entries = [] } in
       modify-every (entriesSet d m values) (rowFinite (d + m)) 1 rows none e (λ h.
-      row-finite d m values (laid-enough (new .locked)) (laid-finite (new .locked)) (getD rows 1 none) (row-before d m values (laid-enough (new .locked)) (laid-finite (new .locked)) (getD rows 1 none) h))
+      row-finite d m values (laid-enough (new .locked)) (laid-finite (new .locked)) (getD rows 1 none)
+      (row-before d m values (laid-enough (new .locked)) (laid-finite (new .locked)) (getD rows 1 none) h))
 
   rows : rowsFinite (addedInputs a new) ≡ true
   unfolding rowsFinite rowsOf addedInputs rowsWith rowFinite

@@ -89,7 +89,8 @@ module _ (a : Arm) (sized : Sized a) (few : a .«link_count» < linkLimit) (mask
       go true e =
           let q : k ≡ 1 = eqb-true k 1 e in
           ap (λ (i : ℕ). length (getD (modify (entriesSet start m (laid (dampingRow mask) zeros)) 1 xs) i noRow .entries)) q
-          ∙ ap (λ (r : Row). length (r .entries)) (modify-same (entriesSet start m (laid (dampingRow mask) zeros)) 1 xs noRow (omega (arith, length-map (a .rows) (entriesSet start m zeros), sized .rows)))
+          ∙ ap (λ (r : Row). length (r .entries)) (modify-same (entriesSet start m (laid (dampingRow mask) zeros)) 1 xs noRow
+          (omega (arith, length-map (a .rows) (entriesSet start m zeros), sized .rows)))
           ∙ set-length start m (laid (dampingRow mask) zeros) (getD xs 1 noRow) (omega (arith, fits, zeroed 1 (omega arith))) (laid-enough mask)
           ∙ zeroed 1 (omega arith)
       go false e = ap (λ (r : Row). length (r .entries)) (modify-other (entriesSet start m (laid (dampingRow mask) zeros)) 1 k xs noRow (eqb-false k 1 e)) ∙ zeroed k h
@@ -215,7 +216,8 @@ module _ (a : Arm) (t : List Float) (sized : Sized a) (settled : Settled a t) (n
   fresh j h =
       as-was j h
       ∙ facts-of .fresh j h
-      ∙ new-same keptOps (parentAt ls) (inputsOf ls) (parentAt ls′) (inputsOf ls′) (state ls t) (state ls′ t) j (early-parent j h) (inputs-kept j h) (λ q. sym (as-was (parentAt ls j) (parent-before j h)))
+      ∙ new-same keptOps (parentAt ls) (inputsOf ls) (parentAt ls′) (inputsOf ls′) (state ls t) (state ls′ t) j (early-parent j h) (inputs-kept j h)
+      (λ q. sym (as-was (parentAt ls j) (parent-before j h)))
 
   ready : Ready ls′ (n + 1) (only n) t
   ready = record {

@@ -41,8 +41,10 @@ use Rattle.arm.specs.declared.Link.{Link}
 use Rattle.arm.specs.declared.Coupling.{Coupling}
 use Rattle.arm.specs.declared.Row.{Row}
 use Rattle.arm.specs.declared.Arm.{Arm}
-use Rattle.arm.specs.Arm.{liveLinks, linksOf, couplingsOf, tagOf, lockedOf, tagsOf, parentsOf, masksOf, maskAt, startAt, dofCountOf, entriesTo, rowsOf, linkAt, noLink, noCoupling, couplingAt, parentOf}
-use Rattle.arm.specs.HandedIn.{unique, tagsUnique, parentsEarlier, couplingLinksFit, jointMasksFit, linkMasksFit, rootMaskFits, rootFits, couplingAxesFit, jointFinite, linkFinite, couplingFinite, rowsFinite, angleFits, linkAngleFits, armRefusal}
+use Rattle.arm.specs.Arm.{liveLinks, linksOf, couplingsOf, tagOf, lockedOf, tagsOf, parentsOf, masksOf, maskAt, startAt, dofCountOf, entriesTo, rowsOf, linkAt}
+use Rattle.arm.specs.Arm.{noLink, noCoupling, couplingAt, parentOf}
+use Rattle.arm.specs.HandedIn.{unique, tagsUnique, parentsEarlier, couplingLinksFit, jointMasksFit, linkMasksFit, rootMaskFits, rootFits, couplingAxesFit}
+use Rattle.arm.specs.HandedIn.{jointFinite, linkFinite, couplingFinite, rowsFinite, angleFits, linkAngleFits, armRefusal}
 use Rattle.arm.proofs.Live.{links-live, masks-live, parents-live}
 use Rattle.part_arm.specs.Places.{Places, placesOf, goesOn}
 use Rattle.part_arm.specs.Part.{newLink, partLinks, ownEntries, partEntries, partRow, couplingStays, newCoupling, partCouplings, partArm}
@@ -188,7 +190,8 @@ module _ (a : Arm) (s : Split) (k : ℕ) (sized : Sized a) (taken : armRefusal a
   old-passes : (test : Link → Bool) → every test (linksOf a) ≡ true → (j : ℕ) → j < n → test (at j) ≡ true
   old-passes test e j h = link-passes a (sized .links) test e j h
 
-  new-passes : (test : Link → Bool) → ((b : Bool) (parent : ℕ) (l : Link) → test l ≡ true → test (newLink b parent l) ≡ true) → every test (linksOf a) ≡ true → every test (linksOf (partArm p a)) ≡ true
+  new-passes : (test : Link → Bool) → ((b : Bool) (parent : ℕ) (l : Link) → test l ≡ true → test (newLink b parent l) ≡ true) → every test (linksOf a) ≡ true
+      → every test (linksOf (partArm p a)) ≡ true
   new-passes test keeps e =
       rw (part-links p a, link-list) (every-chosen test n (isIn ps s k) linkFor (λ j h q. keeps (isHead ps s j) _ (at j) (old-passes test e j h)))
 
@@ -242,7 +245,8 @@ module _ (a : Arm) (s : Split) (k : ℕ) (sized : Sized a) (taken : armRefusal a
           (e ∙ rw q (head-parent _ (at (o .old))))
       go o false q e =
           let v = with-parent ps s (whole .fit) (o .old) (omega (arith, o .there, long), in-survives ps s (whole .fit) k (o .old) (o .here)) q in
-          let up : getD (partLinks p a) i noLink .parent ≡ numberOf ps s (parentIn ps (o .old)) = e ∙ rw (q, link-parent a (sized .links) (sized .couplings) (o .old) (o .there)) (new-parent _ (at (o .old))) in
+          let up : getD (partLinks p a) i noLink .parent ≡ numberOf ps s (parentIn ps (o .old)) = e
+          ∙ rw (q, link-parent a (sized .links) (sized .couplings) (o .old) (o .there)) (new-parent _ (at (o .old))) in
           fits-later i _ (omega (arith, v .greater, o .number, up))
 
   parents : parentsEarlier (partArm p a) ≡ true
@@ -272,7 +276,9 @@ module _ (a : Arm) (s : Split) (k : ℕ) (sized : Sized a) (taken : armRefusal a
       both (lt-ltb _ _ (below (couplingAt a i .link1) (omega (arith, whole .few)) (q .0))) (lt-ltb _ _ (below (couplingAt a i .link2) (omega (arith, whole .few)) (q .1)))
 
   -- a test that a coupling's new numbers leave alone
-  couplings-pass : (test : Coupling → Bool) → ((i : ℕ) → i < min (a .«coupling_count») couplingLimit → couplingStays p (couplingAt a i) ≡ true → test (newCoupling (numberOf ps s) (couplingAt a i)) ≡ true)
+  couplings-pass : (test : Coupling → Bool)
+      → ((i : ℕ) → i < min (a .«coupling_count») couplingLimit → couplingStays p (couplingAt a i) ≡ true
+      → test (newCoupling (numberOf ps s) (couplingAt a i)) ≡ true)
       → every test (couplingsOf (partArm p a)) ≡ true
   unfolding partCouplings
   couplings-pass test f =

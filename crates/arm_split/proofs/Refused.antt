@@ -127,7 +127,8 @@ module _ (a : Arm) (whole : length (a .links) ≡ linkLimit) (s : Split) where
     pub split-tests : lowerOf (r .refusal) (armRefusal a) ≡ lowerOf (unlessOf (ltb (linkOf s) (a .«link_count»)) 4) (armRefusal a)
     unfolding Low
     split-tests = elim either [
-      | inl l ↦ rw refused-by (absorbed (ltb (linkOf s) (length (parentsOf a)) && parentsFit (parentsOf a)) (armRefusal a) (l .0) (l .1) ∙ sym (absorbed (ltb (linkOf s) (a .«link_count»)) (armRefusal a) (l .0) (l .1)))
+      | inl l ↦ rw refused-by (absorbed (ltb (linkOf s) (length (parentsOf a)) && parentsFit (parentsOf a)) (armRefusal a) (l .0) (l .1)
+          ∙ sym (absorbed (ltb (linkOf s) (a .«link_count»)) (armRefusal a) (l .0) (l .1)))
       | inr w ↦
           let n : length (parentsOf a) ≡ a .«link_count» = parents-live a whole ∙ omega (arith, w .few) in
           rw (refused-by, n, w .fit, and-true)

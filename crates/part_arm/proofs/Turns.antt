@@ -54,7 +54,9 @@ module _ (p : Places) (a : Arm) where
     pub link-here : j < linkLimit → (v : Link) → p .here j ≡ true → v ≡ newLink (p .head j) (p .number (linkAt (a .links) j .parent)) (linkAt (a .links) j)
         → (links′ : List Link) (count′ : ℕ) → links′ ≡ set links count v → count′ ≡ count + 1 → Laid linkTurn (emptyArm .links) (j + 1) links′ count′
     link-here h v e q links′ count′ x y =
-        laid-as linkTurn (emptyArm .links) (j + 1) (set links count v) (count + 1) (laid-one linkTurn (emptyArm .links) j links count t v (if-so (p .here j) _ _ e ∙ ap (λ (x : Link). x ∷ []) (sym q)) (omega (arith, link-room h, blank-links))) links′ count′ x y
+        laid-as linkTurn (emptyArm .links) (j + 1) (set links count v) (count + 1)
+        (laid-one linkTurn (emptyArm .links) j links count t v (if-so (p .here j) _ _ e ∙ ap (λ (x : Link). x ∷ []) (sym q))
+        (omega (arith, link-room h, blank-links))) links′ count′ x y
 
     pub link-elsewhere : p .here j ≡ false → (links′ : List Link) (count′ : ℕ) → links′ ≡ links → count′ ≡ count → Laid linkTurn (emptyArm .links) (j + 1) links′ count′
     link-elsewhere e links′ count′ x y =
@@ -76,11 +78,16 @@ module _ (p : Places) (a : Arm) where
     pub coupling-stays : i < couplingLimit → (v : Coupling) → couplingStays p (couplingAt a i) ≡ true → v ≡ newCoupling (p .number) (couplingAt a i)
         → (couplings′ : List Coupling) (count′ : ℕ) → couplings′ ≡ set couplings count v → count′ ≡ count + 1 → Laid couplingTurn (emptyArm .couplings) (i + 1) couplings′ count′
     coupling-stays h v e q couplings′ count′ x y =
-        laid-as couplingTurn (emptyArm .couplings) (i + 1) (set couplings count v) (count + 1) (laid-one couplingTurn (emptyArm .couplings) i couplings count t v (if-so (couplingStays p (couplingAt a i)) _ _ e ∙ ap (λ (x : Coupling). x ∷ []) (sym q)) (omega (arith, coupling-room h, blank-couplings))) couplings′ count′ x y
+        laid-as couplingTurn (emptyArm .couplings) (i + 1) (set couplings count v) (count + 1)
+        (laid-one couplingTurn (emptyArm .couplings) i couplings count t v
+        (if-so (couplingStays p (couplingAt a i)) _ _ e ∙ ap (λ (x : Coupling). x ∷ []) (sym q)) (omega (arith, coupling-room h, blank-couplings))) couplings′
+        count′ x y
 
-    pub coupling-lost : couplingStays p (couplingAt a i) ≡ false → (couplings′ : List Coupling) (count′ : ℕ) → couplings′ ≡ couplings → count′ ≡ count → Laid couplingTurn (emptyArm .couplings) (i + 1) couplings′ count′
+    pub coupling-lost : couplingStays p (couplingAt a i) ≡ false → (couplings′ : List Coupling) (count′ : ℕ) → couplings′ ≡ couplings → count′ ≡ count
+        → Laid couplingTurn (emptyArm .couplings) (i + 1) couplings′ count′
     coupling-lost e couplings′ count′ x y =
-        laid-as couplingTurn (emptyArm .couplings) (i + 1) couplings count (laid-skip couplingTurn (emptyArm .couplings) i couplings count t (if-not (couplingStays p (couplingAt a i)) _ _ e)) couplings′ count′ x y
+        laid-as couplingTurn (emptyArm .couplings) (i + 1) couplings count
+        (laid-skip couplingTurn (emptyArm .couplings) i couplings count t (if-not (couplingStays p (couplingAt a i)) _ _ e)) couplings′ count′ x y
 
     pub couplings-done : i ≡ min (a .«coupling_count») couplingLimit → _≡_ {A = CouplingsOut} (record { count = count; couplings = couplings }) (couplingsOut p a)
     unfolding couplingsOut partCouplings

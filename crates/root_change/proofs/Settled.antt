@@ -256,7 +256,8 @@ module _ (a : Arm) (sized : length (a .links) ≡ linkLimit) (three : length (li
   view-stays g e (suc j) h = ap g (modify-other change 0 (suc j) (a .links) noLink (λ e. omega arith))
 
   -- what the new root accepted, every link does
-  test-stays : (test : Link → Bool) → every test (linksOf a) ≡ true → (test (linkAt (a .links) 0) ≡ true → test (change (linkAt (a .links) 0)) ≡ true) → (j : ℕ) → j < liveLinks a → test (linkAt ls j) ≡ true
+  test-stays : (test : Link → Bool) → every test (linksOf a) ≡ true → (test (linkAt (a .links) 0) ≡ true → test (change (linkAt (a .links) 0)) ≡ true) → (j : ℕ)
+      → j < liveLinks a → test (linkAt ls j) ≡ true
   test-stays test e f zero h = ap test root-at ∙ f (link-passes a sized test e 0 h)
   test-stays test e f (suc j) h = ap test (modify-other change 0 (suc j) (a .links) noLink (λ e. omega arith)) ∙ link-passes a sized test e (suc j) h
 
@@ -316,7 +317,8 @@ module _ (a : Arm) (sized : length (a .links) ≡ linkLimit) (three : length (li
       ∙ every-map (finiteTo (dofCountOf new)) g (a .rows)
       ∙ every-of (λ (r : Row). finiteTo (dofCountOf new) (g r)) (a .rows) (record { entries = [] }) (λ j h.
       let r = getD (a .rows) j (record { entries = [] }) in
-      let e : finiteTo (dofCountOf a) r ≡ true = every-at (finiteTo (dofCountOf a)) (a .rows) (record { entries = [] }) (sym (every-map allFinite (entriesTo (dofCountOf a)) (a .rows)) ∙ was .rows) j h in
+      let e : finiteTo (dofCountOf a) r ≡ true = every-at (finiteTo (dofCountOf a)) (a .rows) (record { entries = [] })
+      (sym (every-map allFinite (entriesTo (dofCountOf a)) (a .rows)) ∙ was .rows) j h in
       ap (λ (k : ℕ). allFinite (take k (g r .entries))) dofs-after
       ∙ row-finite n r (rootMask a) locked was-kind (kind-by to) (omega (arith, dofs-after, dof-count-le new)) (ap (λ (k : ℕ). allFinite (take k (r .entries))) (sym dofs-were) ∙ e))
 

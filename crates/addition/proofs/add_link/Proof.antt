@@ -96,16 +96,19 @@ same-length-2 c = search needs
 
 returns-2 : tie.Need-returns-2
 returns-2 c =
-    let turn = c .before .before .before .before in
+    let turn : tie.After-refresh-one = search in
     let p = above turn in
     let new = linked p in
     let at = started new in
     let ok = accepted at in
     let h = handed (ok .before) in
     let s = start ok in
-    placed-off (s .args .arm) (links-length (s .args .arm) (s .good .0)) (s .args .tables .now) (s .args .new) _ (ok .before .add-refusal .ensures) (ok .if1 .left)
-    (h .handed-in .result) (h .handed-in .ensures) (at .start-among .result) (at .start-among .ensures) (new .link-of .result) _ _ (new .link-of .ensures)
-    (p .fewer .result) (p .fewer .ensures) refl (turn .refresh-one .result) _ (turn .refresh-one .ensures) (not-true (turn .refresh-one .result .fine) (c .if2 .taken))
+    placed-off (s .args .arm) (links-length (s .args .arm) (s .good .0)) (s .args .tables .now) (s .args .new) _ (ok .before .add-refusal .ensures)
+    (ok .if1 .left)
+    (h .handed-in .result) (h .handed-in .ensures) (at .start-among .result) (at .start-among .ensures) (new .link-of .result) _ _
+    (new .link-of .ensures)
+    (p .fewer .result) (p .fewer .ensures) refl (turn .refresh-one .result) _ (turn .refresh-one .ensures)
+    (not-true (turn .refresh-one .result .fine) (c .if2 .taken))
 
 mul-links : tie.Need-mul-links
 mul-links c = omega (arith, through (accepted (started (linked (above (turned (c .before)))))) .room)
@@ -114,13 +117,19 @@ array-set-from-links : tie.Need-array-set-from-links
 array-set-from-links c = omega (arith, through (accepted (started (linked (above (turned (c .before)))))) .room)
 
 cast-with-new-entries : tie.Need-cast-with-new-entries
-cast-with-new-entries c = omega (arith, fits (accepted (started (linked (above (turned (c .before .before .before .before)))))) .locked)
+cast-with-new-entries c =
+    let is-fine : tie.Else2 = search in
+    omega (arith, fits (accepted (started (linked (above (turned (is-fine)))))) .locked)
 
 with-new-entries-requires : tie.Need-with-new-entries-requires
-with-new-entries-requires c κs = let at = started (linked (above (turned (c .before .before .before .before)))) in (fits (accepted at) .locked, room at)
+with-new-entries-requires c κs =
+    let is-fine : tie.Else2 = search in
+    let at = started (linked (above (turned (is-fine)))) in (fits (accepted at) .locked, room at)
 
 add-arm-with : tie.Need-add-arm-with
-add-arm-with c = omega (arith, through (accepted (started (linked (above (turned (c .before .before .before .before .before)))))) .room)
+add-arm-with c =
+    let is-fine : tie.Else2 = search in
+    omega (arith, through (accepted (started (linked (above (turned (is-fine)))))) .room)
 
 arm-with-requires : tie.Need-arm-with-requires
 arm-with-requires c κs = search needs
@@ -130,7 +139,7 @@ same-length-3 c = search needs
 
 returns-3 : tie.Need-returns-3
 returns-3 c =
-    let fine = c .before .before .before .before .before .before in
+    let fine : tie.Else2 = search in
     let turn = turned fine in
     let p = above turn in
     let new = linked p in
@@ -139,9 +148,12 @@ returns-3 c =
     let h = handed (ok .before) in
     let s = start ok in
     rw (c .arm-with .ensures)
-    (placed-on (s .args .arm) (links-length (s .args .arm) (s .good .0)) (s .args .tables .now) (s .args .new) _ (ok .before .add-refusal .ensures) (ok .if1 .left)
-    (h .handed-in .result) (h .handed-in .ensures) (at .start-among .result) (at .start-among .ensures) (new .link-of .result) _ _ (new .link-of .ensures)
-    (p .fewer .result) (p .fewer .ensures) refl (turn .refresh-one .result) _ (turn .refresh-one .ensures) (not-false (turn .refresh-one .result .fine) (fine .if2 .left))
+    (placed-on (s .args .arm) (links-length (s .args .arm) (s .good .0)) (s .args .tables .now) (s .args .new) _ (ok .before .add-refusal .ensures)
+    (ok .if1 .left)
+    (h .handed-in .result) (h .handed-in .ensures) (at .start-among .result) (at .start-among .ensures) (new .link-of .result) _ _
+    (new .link-of .ensures)
+    (p .fewer .result) (p .fewer .ensures) refl (turn .refresh-one .result) _ (turn .refresh-one .ensures)
+    (not-false (turn .refresh-one .result .fine) (fine .if2 .left))
     _ (c .before .with-new-entries .ensures) _ refl)
 
 pub add-link-spec : {M : Type 1} → statement M

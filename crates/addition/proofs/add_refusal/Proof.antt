@@ -61,19 +61,31 @@ lowest-requires c κs = search needs
 returns : tie.Need-returns
 unfolding addRefusal
 returns c =
-    let at-masks-fit = c .before .before .before .before .before .before .before in
-    let at-unless = at-masks-fit .before .before .before .before .before .before .before in
-    let s = at-unless .before .before .before .before .before in
-    let w = links-length (s .args .arm) (s .good .0) in
-    let p = s .pre in
+    let at-unless7 : tie.After-unless7 = search in
+    let at-turns-fit : tie.After-turns-fit = search in
+    let at-unless6 : tie.After-unless6 = search in
+    let at-is-finite-new : tie.After-is-finite-new = search in
+    let at-unless5 : tie.After-unless5 = search in
+    let at-masks-fit : tie.After-masks-fit = search in
+    let at-unless4 : tie.After-unless4 = search in
+    let at-parent-fits : tie.After-parent-fits = search in
+    let at-unless3 : tie.After-unless3 = search in
+    let at-is-new-tag : tie.After-is-new-tag = search in
+    let at-unless2 : tie.After-unless2 = search in
+    let at-unless : tie.After-unless = search in
+    let at-tables-fit : tie.After-tables-fit = search in
+    let at-is-finite-above : tie.After-is-finite-above = search in
+    let start = at-is-finite-above .before .before .before in
+    let w = links-length (start .args .arm) (start .good .0) in
+    let p = start .pre in
     c .lowest .ensures
-    ∙ rw (at-unless .unless .ensures, at-masks-fit .before .before .before .before .before .before .unless2 .ensures)
-    (rw (at-masks-fit .before .before .before .before .unless3 .ensures, at-masks-fit .before .unless4 .ensures)
-    (rw (c .before .before .before .before .before .before .unless5 .ensures, c .before .before .before .before .unless6 .ensures)
-    (rw (c .before .before .unless7 .ensures, c .before .before .before .turns-fit .ensures, c .before .before .before .before .before .is-finite-new .ensures)
-    (rw (at-masks-fit .masks-fit .ensures, at-masks-fit .before .before .parent-fits .ensures)
-    (rw (at-masks-fit .before .before .before .before .before .is-new-tag .ensures, at-unless .before .tables-fit .ensures)
-    (rw (at-unless .before .before .is-finite-above .ensures, found-tags, found-refusal _ w _ p)))))))
+    ∙ rw (at-unless .unless .ensures, at-unless2 .unless2 .ensures)
+    (rw (at-unless3 .unless3 .ensures, at-unless4 .unless4 .ensures)
+    (rw (at-unless5 .unless5 .ensures, at-unless6 .unless6 .ensures)
+    (rw (at-unless7 .unless7 .ensures, at-turns-fit .turns-fit .ensures, at-is-finite-new .is-finite-new .ensures)
+    (rw (at-masks-fit .masks-fit .ensures, at-parent-fits .parent-fits .ensures)
+    (rw (at-is-new-tag .is-new-tag .ensures, at-tables-fit .tables-fit .ensures)
+    (rw (at-is-finite-above .is-finite-above .ensures, found-tags, found-refusal _ w _ p)))))))
 
 pub add-refusal-spec : {M : Type 1} → statement M
 add-refusal-spec =

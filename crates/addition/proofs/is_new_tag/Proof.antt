@@ -22,7 +22,10 @@ is-new-requires : tie.Need-is-new-requires
 is-new-requires c κs = search needs
 
 returns : tie.Need-returns
-returns c = c .is-new .ensures ∙ ap (isNew (c .before .before .before .before .args .tag)) (front _ _ (c .before .before .before .live-links .ensures) refl)
+returns c =
+    let at-live-links : tie.After-live-links = search in
+    let start : tie.Start = search in
+    c .is-new .ensures ∙ ap (isNew (start .args .tag)) (front _ _ (at-live-links .live-links .ensures) refl)
 
 pub is-new-tag-spec : {M : Type 1} → statement M
 is-new-tag-spec =

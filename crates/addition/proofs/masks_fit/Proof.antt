@@ -15,10 +15,15 @@ is-mask-requires-3 : tie.Need-is-mask-requires-3
 is-mask-requires-3 c κs = search needs
 
 returns : tie.Need-returns
-returns c = (cc) ∙ first-masks (c .before .before .before .before .before .before .args .link) (c .before .before .before .before .before .before .args .new) (c .before .before .if1 .taken)
+returns c =
+    let is-root : tie.Then1 = search in
+    let start : tie.Start = search in
+    (cc) ∙ first-masks (start .args .link) (start .args .new) (is-root .if1 .taken)
 
 returns-2 : tie.Need-returns-2
-returns-2 c = (cc) ∙ later-masks (c .before .before .before .before .args .link) (c .before .before .before .before .args .new) (c .if1 .left)
+returns-2 c =
+    let start : tie.Start = search in
+    (cc) ∙ later-masks (start .args .link) (start .args .new) (c .if1 .left)
 
 pub masks-fit-spec : {M : Type 1} → statement M
 masks-fit-spec =

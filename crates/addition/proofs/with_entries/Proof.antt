@@ -16,7 +16,10 @@ copy-part-requires : tie.Need-copy-part-requires
 copy-part-requires c κs = search needs
 
 returns : tie.Need-returns
-returns c = let s = c .before .before .before .before .before in entries-set (s .args .row) (s .args .start) (s .args .n) (s .args .t4) _ (omega (arith, row-length (s .args .row) (s .good .0))) (omega arith) (c .before .copy-part .ensures)
+returns c =
+    let start : tie.Start = search in
+    entries-set (start .args .row) (start .args .start) (start .args .n) (start .args .t4) _
+    (omega (arith, row-length (start .args .row) (start .good .0))) (omega arith) (c .before .copy-part .ensures)
 
 pub with-entries-spec : {M : Type 1} → statement M
 with-entries-spec =

@@ -32,7 +32,10 @@ array-copy-out-row : tie.Need-array-copy-out-row Inv-loop μ-loop
 array-copy-out-row c = search needs
 
 with-entries-requires : tie.Need-with-entries-requires Inv-loop μ-loop
-with-entries-requires c κs = (omega (arith, dofs-le (c .before .before .before .before .args .mask), c .before .before .before .dofs .ensures), c .before .before .before .before .pre .1)
+with-entries-requires c κs =
+    let at-dofs : tie.After-dofs Inv-loop μ-loop = search in
+    let start : tie.Start Inv-loop μ-loop = search in
+    (omega (arith, dofs-le (start .args .mask), at-dofs .dofs .ensures), start .pre .1)
 
 mul-rows : tie.Need-mul-rows Inv-loop μ-loop
 mul-rows c = search needs
@@ -48,13 +51,20 @@ loop-less c = search needs
 
 loop-again : tie.Need-loop-again Inv-loop μ-loop
 loop-again c =
-    let given = c .before .before .before .before .before .args .t1 in
-    let k = c .before .before .before .loop in
-    let f = entriesSet (c .before .before .before .before .before .args .start) (c .before .before .before .before .dofs .result) zeros in
+    let turn : tie.At-loop Inv-loop μ-loop = search in
+    let at-dofs : tie.After-dofs Inv-loop μ-loop = search in
+    let start : tie.Start Inv-loop μ-loop = search in
+    let given = start .args .t1 in
+    let k = turn .loop in
+    let f = entriesSet (start .args .start) (at-dofs .dofs .result) zeros in
     let d : Row = record { entries = [] } in
-    let w : length given ≡ 5 = c .before .before .before .before .before .good .0 .1 .0 .1 in
-    let m : length (map f given) ≡ length given = length-map given f in
-    (omega arith, simp length-set (k .inv .1), filled-more (map f given) (k .rows) (k .i) d _ (omega arith) (omega arith) (k .inv .2) (c .with-entries .ensures ∙ sym (map-at f given (k .i) _ d (omega arith))))
+    let w : length given ≡ 5 = start .good .0 .1 .0 .1 in
+    let m : length (map f given) ≡ length given = length-map given f in (
+      omega arith,
+      simp length-set (k .inv .1),
+      filled-more (map f given) (k .rows) (k .i) d _ (omega arith) (omega arith) (k .inv .2)
+          (c .with-entries .ensures ∙ sym (map-at f given (k .i) _ d (omega arith))),
+    )
 
 row-number-requires : tie.Need-row-number-requires Inv-loop μ-loop
 row-number-requires c κs = search needs
@@ -69,7 +79,10 @@ damping-of-requires : tie.Need-damping-of-requires Inv-loop μ-loop
 damping-of-requires c κs = search needs
 
 with-entries-requires-2 : tie.Need-with-entries-requires-2 Inv-loop μ-loop
-with-entries-requires-2 c κs = (omega (arith, dofs-le (c .before .before .before .before .before .before .args .mask), c .before .before .before .before .before .dofs .ensures), c .before .before .before .before .before .before .pre .1)
+with-entries-requires-2 c κs =
+    let at-dofs : tie.After-dofs Inv-loop μ-loop = search in
+    let start : tie.Start Inv-loop μ-loop = search in
+    (omega (arith, dofs-le (start .args .mask), at-dofs .dofs .ensures), start .pre .1)
 
 mul-rows-2 : tie.Need-mul-rows-2 Inv-loop μ-loop
 mul-rows-2 c = search needs
@@ -79,8 +92,14 @@ array-set-from-rows-2 c = search needs
 
 returns : tie.Need-returns Inv-loop μ-loop
 returns c =
-    let k = c .before .before .before .before .before .loop in
-    rows-with (c .before .before .before .before .before .before .before .args .t1) (c .before .before .before .before .before .before .before .args .mask) _ _ _ (k .i) (k .rows) _ _ _ (c .before .before .before .before .before .before .before .good .0 .1 .0 .1) (k .inv .1) (c .before .before .before .before .before .before .dofs .ensures) (c .before .before .before .row-number .ensures) (c .before .before .before .before .loop-test .left) (k .inv .2) (c .before .damping-of .ensures) (c .with-entries2 .ensures)
+    let at-row-number : tie.After-row-number Inv-loop μ-loop = search in
+    let after-loop : tie.After-loop Inv-loop μ-loop = search in
+    let turn : tie.At-loop Inv-loop μ-loop = search in
+    let at-dofs : tie.After-dofs Inv-loop μ-loop = search in
+    let start : tie.Start Inv-loop μ-loop = search in
+    let k = turn .loop in
+    rows-with (start .args .t1) (start .args .mask) _ _ _ (k .i) (k .rows) _ _ _ (start .good .0 .1 .0 .1) (k .inv .1) (at-dofs .dofs .ensures)
+    (at-row-number .row-number .ensures) (after-loop .loop-test .left) (k .inv .2) (c .before .damping-of .ensures) (c .with-entries2 .ensures)
 
 pub with-new-entries-spec : {M : Type 1} → statement M
 with-new-entries-spec =

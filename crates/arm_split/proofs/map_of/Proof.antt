@@ -33,9 +33,14 @@ same-length c = search needs
 
 returns : tie.Need-returns
 returns c =
-    let s = c .before .before .before .before .before .before .before .before .before in
-    c .before .before .split-map .ensures
-    ∙ ap (λ (ps : List ℕ). splitAnswer ps (s .args .s) (s .args .map .now)) (front _ _ (c .before .before .before .before .before .before .live-links .ensures) (c .before .before .before .before .before .before .before .parents-of .ensures) ∙ parents-front (s .args .arm) (links-length (s .args .arm) (s .good .0)))
+    let at-split-map : tie.After-split-map = search in
+    let at-live-links : tie.After-live-links = search in
+    let at-parents-of : tie.After-parents-of = search in
+    let start : tie.Start = search in
+    at-split-map .split-map .ensures
+    ∙ ap (λ (ps : List ℕ). splitAnswer ps (start .args .s) (start .args .map .now))
+    (front _ _ (at-live-links .live-links .ensures) (at-parents-of .parents-of .ensures)
+    ∙ parents-front (start .args .arm) (links-length (start .args .arm) (start .good .0)))
 
 pub map-of-spec : {M : Type 1} → statement M
 map-of-spec =

@@ -67,11 +67,10 @@ same-length c = search needs
 returns : tie.Need-returns
 unfolding armPart
 returns c =
-    let begun : tie.Start = search in
     let tested : tie.After-lowest = search in
-    let taken : tie.Then1 = search in
+    let begun : tie.Start = search in
     let t = begun .args .tables .now in
-    rw (c .empty-arm .ensures) (refused (refusal tested) emptyArm t (taken .if1 .taken) _)
+    rw (c .empty-arm .ensures) (refused (refusal tested) emptyArm t (c .before .if1 .taken) _)
 
 part-arm-requires : tie.Need-part-arm-requires
 part-arm-requires c κs = search needs
@@ -87,6 +86,7 @@ same-length-2 c = search needs
 
 returns-2 : tie.Need-returns-2
 returns-2 c =
+    let at-work-all : tie.After-work-all = search in
     let blank : tie.After-empty-arm2 = search in
     let made : tie.After-part-arm = search in
     let accepted : tie.Else1 = search in
@@ -95,9 +95,10 @@ returns-2 c =
     let begun = first tested in
     let a = begun .args .arm in
     let t = begun .args .tables .now in
-    c .before .before .work-all .ensures
+    at-work-all .work-all .ensures
     ∙ ap (λ (old : Arm). workedAll old (made .part-arm .result) t) (blank .empty-arm2 .ensures)
-    ∙ part-given a (links-length a (begun .good .0)) (couplings-length a (begun .good .0)) (begun .args .s) (begun .args .k) t _ (refusal tested) (accepted .if1 .left) _ _ _ (omega arith)
+    ∙ part-given a (links-length a (begun .good .0)) (couplings-length a (begun .good .0)) (begun .args .s) (begun .args .k) t _ (refusal tested)
+    (accepted .if1 .left) _ _ _ (omega arith)
     (mapped .map-of .ensures) _ (made .part-arm .ensures)
 
 pub part-spec : {M : Type 1} → statement M

@@ -55,11 +55,12 @@ same-length c = search needs
 
 returns-2 : tie.Need-returns-2
 returns-2 c =
-    let begun : tie.Start = search in
-    let tested : tie.After-lowest = search in
+    let at-map-of2 : tie.After-map-of2 = search in
     let accepted : tie.Else1 = search in
+    let tested : tie.After-lowest = search in
+    let begun : tie.Start = search in
     let a = begun .args .arm in
-    c .before .before .map-of2 .ensures
+    at-map-of2 .map-of2 .ensures
     ∙ split-given a (links-length a (begun .good .0)) (begun .args .s) (begun .args .map .now) _ (refusal tested) (accepted .if1 .left)
 
 pub split-spec : {M : Type 1} → statement M

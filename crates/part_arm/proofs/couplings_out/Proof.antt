@@ -14,7 +14,8 @@ use Rattle.part_arm.proofs.couplings_out.Statement.{statement}
 use Rattle.part_arm.proofs.couplings_out.Tie as tie
 
 abbrev Inv-loop : tie.InvT-loop
-Inv-loop places k arm n couplings₀ count₀ i₀ couplings count i = (n ≡ min (arm .«coupling_count») couplingLimit) × (i ≤ n) × Laid (couplingTurn (placesIn places k) arm) (emptyArm .couplings) i couplings count
+Inv-loop places k arm n couplings₀ count₀ i₀ couplings count i =
+    (n ≡ min (arm .«coupling_count») couplingLimit) × (i ≤ n) × Laid (couplingTurn (placesIn places k) arm) (emptyArm .couplings) i couplings count
 
 abbrev μ-loop : tie.MeasureT-loop
 μ-loop places k arm n couplings₀ count₀ i₀ couplings count i = n - i
@@ -27,12 +28,14 @@ empty-arm-requires c κs = search needs
 
 loop-holds : tie.Need-loop-holds Inv-loop μ-loop
 loop-holds c =
-    let begun : tie.Start Inv-loop μ-loop = search in
     let counted : tie.After-fewer Inv-loop μ-loop = search in
-    let blank : tie.After-empty-arm Inv-loop μ-loop = search in
+    let begun : tie.Start Inv-loop μ-loop = search in
     let turns = couplingTurn (placesIn (begun .args .places) (begun .args .k)) (begun .args .t1) in
-    let first = laid-none turns (emptyArm .couplings) in
-    (counted .fewer .ensures, omega arith, laid-as turns (emptyArm .couplings) 0 (emptyArm .couplings) 0 first _ 0 (ap (λ (a : Arm). a .couplings) (blank .empty-arm .ensures)) refl)
+    let first = laid-none turns (emptyArm .couplings) in (
+      counted .fewer .ensures,
+      omega arith,
+      laid-as turns (emptyArm .couplings) 0 (emptyArm .couplings) 0 first _ 0 (ap (λ (a : Arm). a .couplings) (c .before .empty-arm .ensures)) refl,
+    )
 
 mul-c : tie.Need-mul-c Inv-loop μ-loop
 mul-c c = search needs
@@ -54,13 +57,19 @@ room c =
     coupling-room (placesIn (begun .args .places) (begun .args .k)) (begun .args .t1) (k .i) (k .couplings) (k .count) (k .inv .2) (omega arith)
 
 mul-couplings : tie.Need-mul-couplings Inv-loop μ-loop
-mul-couplings c = let turn : tie.In-loop Inv-loop μ-loop = search in omega (arith, room turn)
+mul-couplings c =
+    let turn : tie.In-loop Inv-loop μ-loop = search in
+    omega (arith, room turn)
 
 array-set-from-couplings : tie.Need-array-set-from-couplings Inv-loop μ-loop
-array-set-from-couplings c = let turn : tie.In-loop Inv-loop μ-loop = search in omega (arith, room turn)
+array-set-from-couplings c =
+    let turn : tie.In-loop Inv-loop μ-loop = search in
+    omega (arith, room turn)
 
 add-count : tie.Need-add-count Inv-loop μ-loop
-add-count c = let turn : tie.In-loop Inv-loop μ-loop = search in omega (arith, room turn)
+add-count c =
+    let turn : tie.In-loop Inv-loop μ-loop = search in
+    omega (arith, room turn)
 
 add-i : tie.Need-add-i Inv-loop μ-loop
 add-i c = search needs
@@ -70,13 +79,19 @@ loop-less c = search needs
 
 loop-again : tie.Need-loop-again Inv-loop μ-loop
 loop-again c =
+    let turn : tie.At-loop Inv-loop μ-loop = search in
     let begun : tie.Start Inv-loop μ-loop = search in
-    let k = c .before .before .before .before .loop in
+    let k = turn .loop in
     let p = placesIn (begun .args .places) (begun .args .k) in
     let a = begun .args .t1 in
     let stays = c .before .coupling-stays .ensures in
     ⊎-elim
-    (λ w. (k .inv .0, omega arith, coupling-stays p a (k .i) (k .couplings) (k .count) (k .inv .2) (omega arith) (w .1 .result) (sym stays ∙ w .0 .taken) (w .1 .ensures) _ _ (w .2) (w .3)))
+    (λ w. (
+      k .inv .0,
+      omega arith,
+      coupling-stays p a (k .i) (k .couplings) (k .count) (k .inv .2) (omega arith) (w .1 .result) (sym stays ∙ w .0 .taken) (w .1 .ensures) _ _
+          (w .2) (w .3),
+    ))
     (λ w. (k .inv .0, omega arith, coupling-lost p a (k .i) (k .couplings) (k .count) (k .inv .2) (sym stays ∙ w .0 .left) _ _ (w .1) (w .2)))
     (c .if1 .came)
 

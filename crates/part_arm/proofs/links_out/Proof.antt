@@ -28,12 +28,14 @@ empty-arm-requires c κs = search needs
 
 loop-holds : tie.Need-loop-holds Inv-loop μ-loop
 loop-holds c =
-    let begun : tie.Start Inv-loop μ-loop = search in
     let counted : tie.After-live-links Inv-loop μ-loop = search in
-    let blank : tie.After-empty-arm Inv-loop μ-loop = search in
+    let begun : tie.Start Inv-loop μ-loop = search in
     let turns = linkTurn (placesIn (begun .args .places) (begun .args .k)) (begun .args .t1) in
-    let first = laid-none turns (emptyArm .links) in
-    (counted .live-links .ensures, omega arith, laid-as turns (emptyArm .links) 0 (emptyArm .links) 0 first _ 0 (ap (λ (a : Arm). a .links) (blank .empty-arm .ensures)) refl)
+    let first = laid-none turns (emptyArm .links) in (
+      counted .live-links .ensures,
+      omega arith,
+      laid-as turns (emptyArm .links) 0 (emptyArm .links) 0 first _ 0 (ap (λ (a : Arm). a .links) (c .before .empty-arm .ensures)) refl,
+    )
 
 is-here-requires : tie.Need-is-here-requires Inv-loop μ-loop
 is-here-requires c κs = search needs
@@ -64,13 +66,19 @@ room c =
     link-room (placesIn (begun .args .places) (begun .args .k)) (begun .args .t1) (k .j) (k .links) (k .count) (k .inv .2) (omega arith)
 
 mul-links : tie.Need-mul-links Inv-loop μ-loop
-mul-links c = let turn : tie.In-loop Inv-loop μ-loop = search in omega (arith, room turn)
+mul-links c =
+    let turn : tie.In-loop Inv-loop μ-loop = search in
+    omega (arith, room turn)
 
 array-set-from-links : tie.Need-array-set-from-links Inv-loop μ-loop
-array-set-from-links c = let turn : tie.In-loop Inv-loop μ-loop = search in omega (arith, room turn)
+array-set-from-links c =
+    let turn : tie.In-loop Inv-loop μ-loop = search in
+    omega (arith, room turn)
 
 add-count : tie.Need-add-count Inv-loop μ-loop
-add-count c = let turn : tie.In-loop Inv-loop μ-loop = search in omega (arith, room turn)
+add-count c =
+    let turn : tie.In-loop Inv-loop μ-loop = search in
+    omega (arith, room turn)
 
 add-j : tie.Need-add-j Inv-loop μ-loop
 add-j c = search needs
@@ -80,13 +88,19 @@ loop-less c = search needs
 
 loop-again : tie.Need-loop-again Inv-loop μ-loop
 loop-again c =
+    let turn : tie.At-loop Inv-loop μ-loop = search in
     let begun : tie.Start Inv-loop μ-loop = search in
-    let k = c .before .before .before .loop in
+    let k = turn .loop in
     let p = placesIn (begun .args .places) (begun .args .k) in
     let a = begun .args .t1 in
     let here = c .before .is-here .ensures in
     ⊎-elim
-    (λ w. (k .inv .0, omega arith, link-here p a (k .j) (k .links) (k .count) (k .inv .2) (omega arith) (w .5 .result) (sym here ∙ w .0 .taken) (cc (w .5 .ensures, w .2 .ensures, w .4 .ensures)) _ _ (w .6) (w .7)))
+    (λ w. (
+      k .inv .0,
+      omega arith,
+      link-here p a (k .j) (k .links) (k .count) (k .inv .2) (omega arith) (w .5 .result) (sym here ∙ w .0 .taken)
+          (cc (w .5 .ensures, w .2 .ensures, w .4 .ensures)) _ _ (w .6) (w .7),
+    ))
     (λ w. (k .inv .0, omega arith, link-elsewhere p a (k .j) (k .links) (k .count) (k .inv .2) (sym here ∙ w .0 .left) _ _ (w .1) (w .2)))
     (c .if1 .came)
 

@@ -20,11 +20,12 @@ arm-with-requires c κs = search needs
 
 returns : tie.Need-returns
 returns c =
-    let begun : tie.Start = search in
-    let links : tie.After-links-out = search in
     let couplings : tie.After-couplings-out = search in
+    let links : tie.After-links-out = search in
+    let begun : tie.Start = search in
     let p = placesIn (begun .args .places) (begun .args .k) in
-    c .arm-with .ensures ∙ assembled p (begun .args .arm) _ _ _ (links .links-out .ensures) (couplings .couplings-out .ensures) (c .before .rows-out .ensures)
+    c .arm-with .ensures
+    ∙ assembled p (begun .args .arm) _ _ _ (links .links-out .ensures) (couplings .couplings-out .ensures) (c .before .rows-out .ensures)
 
 pub part-arm-spec : {M : Type 1} → statement M
 part-arm-spec = tie.close (tie.spec links-out-requires couplings-out-requires rows-out-requires arm-with-requires returns)

@@ -21,7 +21,9 @@ use Rattle.part_arm.proofs.row_out.Statement.{statement}
 use Rattle.part_arm.proofs.row_out.Tie as tie
 
 abbrev Inv-loop : tie.InvT-loop
-Inv-loop places k arm n old entries₀ at₀ start₀ j₀ entries at start j = (n ≡ liveLinks arm) × (j ≤ n) × (start ≡ startAt arm j) × (at ≤ start) × Laid (λ i. cond (goesOn (placesIn places k) i) (ownEntries arm old i) []) (blankRow .entries) j entries at
+Inv-loop places k arm n old entries₀ at₀ start₀ j₀ entries at start j =
+    (n ≡ liveLinks arm) × (j ≤ n) × (start ≡ startAt arm j) × (at ≤ start)
+    × Laid (λ i. cond (goesOn (placesIn places k) i) (ownEntries arm old i) []) (blankRow .entries) j entries at
 
 abbrev μ-loop : tie.MeasureT-loop
 μ-loop places k arm n old entries₀ at₀ start₀ j₀ entries at start j = n - j
@@ -56,8 +58,8 @@ room c =
 
 slice-aggregate-copy-part : tie.Need-slice-aggregate-copy-part Inv-loop μ-loop
 slice-aggregate-copy-part c =
-    let turn : tie.At-loop Inv-loop μ-loop = search in
     let counted : tie.After-dofs Inv-loop μ-loop = search in
+    let turn : tie.At-loop Inv-loop μ-loop = search in
     let k = turn .loop in
     let r = room counted in
     sym (laid-length _ (blankRow .entries) (k .j) (k .entries) (k .at) (k .inv .4) (omega arith))
@@ -69,10 +71,14 @@ copy-part-requires : tie.Need-copy-part-requires Inv-loop μ-loop
 copy-part-requires c κs = search needs
 
 add-at : tie.Need-add-at Inv-loop μ-loop
-add-at c = let counted : tie.After-dofs Inv-loop μ-loop = search in omega (arith, room counted)
+add-at c =
+    let counted : tie.After-dofs Inv-loop μ-loop = search in
+    omega (arith, room counted)
 
 add-start : tie.Need-add-start Inv-loop μ-loop
-add-start c = let counted : tie.After-dofs Inv-loop μ-loop = search in omega (arith, room counted)
+add-start c =
+    let counted : tie.After-dofs Inv-loop μ-loop = search in
+    omega (arith, room counted)
 
 add-j : tie.Need-add-j Inv-loop μ-loop
 add-j c = search needs
@@ -82,9 +88,9 @@ loop-less c = search needs
 
 loop-again : tie.Need-loop-again Inv-loop μ-loop
 loop-again c =
-    let begun : tie.Start Inv-loop μ-loop = search in
-    let turn : tie.At-loop Inv-loop μ-loop = search in
     let counted : tie.After-dofs Inv-loop μ-loop = search in
+    let turn : tie.At-loop Inv-loop μ-loop = search in
+    let begun : tie.Start Inv-loop μ-loop = search in
     let k = turn .loop in
     let d = counted .dofs in
     let a = begun .args .t1 in
@@ -97,10 +103,22 @@ loop-again c =
     let copied = copied-fits (k .at) (k .start) (d .result) (k .entries) old (omega (arith, room counted, l)) (omega (arith, room counted, e)) in
     let goes = c .before .goes-on .ensures in
     ⊎-elim
-    (λ o. (k .inv .0, omega arith, next, omega arith,
-    entries-kept p a w old e (k .j) (d .result) _ (omega arith) (d .ensures) (k .start) (k .inv .2) (k .entries) (k .at) (k .inv .4) (sym goes ∙ o .0 .taken) _ _ (o .5 ∙ o .3 .ensures ∙ copied) (o .6)))
-    (λ o. (k .inv .0, omega arith, next, omega arith,
-    entries-lost p a w old e (k .j) (d .result) _ (omega arith) (d .ensures) (k .start) (k .inv .2) (k .entries) (k .at) (k .inv .4) (sym goes ∙ o .0 .left) _ _ (o .1) (o .2)))
+    (λ o. (
+      k .inv .0,
+      omega arith,
+      next,
+      omega arith,
+      entries-kept p a w old e (k .j) (d .result) _ (omega arith) (d .ensures) (k .start) (k .inv .2) (k .entries) (k .at) (k .inv .4)
+          (sym goes ∙ o .0 .taken) _ _ (o .5 ∙ o .3 .ensures ∙ copied) (o .6),
+    ))
+    (λ o. (
+      k .inv .0,
+      omega arith,
+      next,
+      omega arith,
+      entries-lost p a w old e (k .j) (d .result) _ (omega arith) (d .ensures) (k .start) (k .inv .2) (k .entries) (k .at) (k .inv .4)
+          (sym goes ∙ o .0 .left) _ _ (o .1) (o .2),
+    ))
     (c .if1 .came)
 
 returns : tie.Need-returns Inv-loop μ-loop

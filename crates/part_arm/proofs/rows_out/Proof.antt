@@ -44,21 +44,26 @@ loop-less c = search needs
 
 loop-again : tie.Need-loop-again Inv-loop μ-loop
 loop-again c =
-    let s = c .before .before .before .before .before in
-    let k = c .before .before .before .loop in
-    let a = s .args .t1 in
-    let f = partRow (placesIn (s .args .places) (s .args .k)) a in
-    let n : length (a .rows) ≡ 5 = rows-length a (s .good .0) in
-    let m : length (map f (a .rows)) ≡ length (a .rows) = length-map (a .rows) f in
-    (omega arith, simp length-set (k .inv .1), filled-more (map f (a .rows)) (k .rows) (k .i) (record { entries = [] }) _ (omega arith) (omega arith) (k .inv .2) (c .row-out .ensures ∙ sym (map-at f (a .rows) (k .i) _ _ (omega arith))))
+    let turn : tie.At-loop Inv-loop μ-loop = search in
+    let start : tie.Start Inv-loop μ-loop = search in
+    let k = turn .loop in
+    let a = start .args .t1 in
+    let f = partRow (placesIn (start .args .places) (start .args .k)) a in
+    let n : length (a .rows) ≡ 5 = rows-length a (start .good .0) in
+    let m : length (map f (a .rows)) ≡ length (a .rows) = length-map (a .rows) f in (
+      omega arith,
+      simp length-set (k .inv .1),
+      filled-more (map f (a .rows)) (k .rows) (k .i) (record { entries = [] }) _ (omega arith) (omega arith) (k .inv .2)
+          (c .row-out .ensures ∙ sym (map-at f (a .rows) (k .i) _ _ (omega arith))),
+    )
 
 returns : tie.Need-returns Inv-loop μ-loop
 returns c =
-    let s = c .before .before .before in
+    let start : tie.Start Inv-loop μ-loop = search in
     let k = c .before .loop in
-    let a = s .args .t1 in
-    let f = partRow (placesIn (s .args .places) (s .args .k)) a in
-    let n : length (a .rows) ≡ 5 = rows-length a (s .good .0) in
+    let a = start .args .t1 in
+    let f = partRow (placesIn (start .args .places) (start .args .k)) a in
+    let n : length (a .rows) ≡ 5 = rows-length a (start .good .0) in
     let m : length (map f (a .rows)) ≡ length (a .rows) = length-map (a .rows) f in
     filled-all (map f (a .rows)) (k .rows) (k .i) (omega arith) (omega arith) (k .inv .2)
 

@@ -40,11 +40,14 @@ same-length-2 c = search needs
 
 returns-2 : tie.Need-returns-2
 returns-2 c =
-    let begun : tie.Start = search in
-    let tested : tie.After-root-refusal = search in
+    let at-work-all : tie.After-work-all = search in
     let changed : tie.After-root-changed = search in
-    done (begun .args .arm) (begun .args .tables .now) (begun .args .root) (tested .root-refusal .ensures) (changed .before .if1 .left) (changed .root-changed .ensures)
-    (c .before .before .work-all .ensures)
+    let accepted : tie.Else1 = search in
+    let tested : tie.After-root-refusal = search in
+    let begun : tie.Start = search in
+    done (begun .args .arm) (begun .args .tables .now) (begun .args .root) (tested .root-refusal .ensures) (accepted .if1 .left)
+    (changed .root-changed .ensures)
+    (at-work-all .work-all .ensures)
 
 pub change-root-spec : {M : Type 1} → statement M
 change-root-spec =

@@ -22,9 +22,9 @@ arm-with-requires c κs = search needs
 
 returns : tie.Need-returns
 returns c =
-    let begun : tie.Start = search in
     let linked : tie.After-root-link = search in
     let rows : tie.After-root-rows = search in
+    let begun : tie.Start = search in
     c .arm-with .ensures ∙ changed-is (begun .args .arm) (begun .args .root) _ _ (rows .root-rows .ensures) (linked .root-link .ensures)
 
 pub root-changed-spec : {M : Type 1} → statement M

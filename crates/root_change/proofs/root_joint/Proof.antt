@@ -20,14 +20,16 @@ fixed-joint-requires c κs = search needs
 
 returns : tie.Need-returns
 returns c =
-    let told = c .before .before in
-    let j = told .before .before .args .j in
+    let told : tie.After-root = search in
+    let start : tie.Start = search in
+    let j = start .args .j in
     c .free-joint .ensures ∙ sym (ap (λ (root : Root). rootJoint root j) (told .root .given .1))
 
 returns-2 : tie.Need-returns-2
 returns-2 c =
-    let told = c .before .before in
-    let j = told .before .before .args .j in
+    let told : tie.After-root2 = search in
+    let start : tie.Start = search in
+    let j = start .args .j in
     c .fixed-joint .ensures ∙ sym (ap (λ (root : Root). rootJoint root j) (told .root2 .given .1))
 
 pub root-joint-spec : {M : Type 1} → statement M

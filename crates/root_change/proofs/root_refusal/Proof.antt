@@ -38,12 +38,18 @@ lowest-requires c κs = search needs
 returns : tie.Need-returns
 unfolding rootRefusal
 returns c =
-    let at-unless2 = c .before .before .before .before .before .before .before in
-    let s = at-unless2 .before .before .before .before .before in
+    let at-arm-refusal : tie.After-arm-refusal = search in
+    let at-unless4 : tie.After-unless4 = search in
+    let at-turn-fits : tie.After-turn-fits = search in
+    let at-unless3 : tie.After-unless3 = search in
+    let at-is-finite-root : tie.After-is-finite-root = search in
+    let at-unless2 : tie.After-unless2 = search in
+    let at-unless : tie.After-unless = search in
+    let at-tables-fit : tie.After-tables-fit = search in
     c .lowest .ensures
-    ∙ rw (at-unless2 .before .before .unless .ensures, at-unless2 .unless2 .ensures, c .before .before .before .before .before .unless3 .ensures)
-    (rw (c .before .before .before .unless4 .ensures, c .before .before .arm-refusal .ensures, c .before .before .before .before .turn-fits .ensures)
-    (rw (c .before .before .before .before .before .before .is-finite-root .ensures, at-unless2 .before .before .before .tables-fit .ensures)))
+    ∙ rw (at-unless .unless .ensures, at-unless2 .unless2 .ensures, at-unless3 .unless3 .ensures)
+    (rw (at-unless4 .unless4 .ensures, at-arm-refusal .arm-refusal .ensures, at-turn-fits .turn-fits .ensures)
+    (rw (at-is-finite-root .is-finite-root .ensures, at-tables-fit .tables-fit .ensures)))
 
 pub root-refusal-spec : {M : Type 1} → statement M
 root-refusal-spec =

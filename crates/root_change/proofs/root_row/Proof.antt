@@ -14,18 +14,20 @@ widened-row-requires c κs = search needs
 
 returns-2 : tie.Need-returns-2
 returns-2 c =
+    let at-if1 : tie.Else1 = search in
     let begun : tie.Start = search in
     let own = begun .args in
-    row-wider (own .from) (own .to) (own .row) (c .before .before .if1 .left) (c .before .if2 .taken) (c .widened-row .ensures)
+    row-wider (own .from) (own .to) (own .row) (at-if1 .if1 .left) (c .before .if2 .taken) (c .widened-row .ensures)
 
 narrowed-row-requires : tie.Need-narrowed-row-requires
 narrowed-row-requires c κs = search needs
 
 returns-3 : tie.Need-returns-3
 returns-3 c =
+    let at-if1 : tie.Else1 = search in
     let begun : tie.Start = search in
     let own = begun .args in
-    row-narrower (own .from) (own .to) (own .row) (c .before .before .if1 .left) (c .before .if2 .left) (c .narrowed-row .ensures)
+    row-narrower (own .from) (own .to) (own .row) (at-if1 .if1 .left) (c .before .if2 .left) (c .narrowed-row .ensures)
 
 pub root-row-spec : {M : Type 1} → statement M
 root-row-spec =

@@ -50,19 +50,22 @@ loop-less c = search needs
 
 loop-again : tie.Need-loop-again Inv-loop μ-loop
 loop-again c =
+    let turn : tie.At-loop Inv-loop μ-loop = search in
     let begun : tie.Start Inv-loop μ-loop = search in
     let own = begun .args in
-    let k = c .before .before .before .loop in
-    let row = rows-more (own .t1) _ (rows-length (own .t1) (begun .good .0)) (k .i) (k .rows) _ (omega arith) (k .inv .2) (k .inv .3) (c .root-row .ensures) in
+    let k = turn .loop in
+    let row = rows-more (own .t1) _ (rows-length (own .t1) (begun .good .0)) (k .i) (k .rows) _ (omega arith) (k .inv .2) (k .inv .3)
+    (c .root-row .ensures) in
     (k .inv .0, omega arith, length-set (k .rows) (k .i) _ ∙ k .inv .2, row)
 
 returns : tie.Need-returns Inv-loop μ-loop
 unfolding rootRows
 returns c =
+    let at-locked-by : tie.After-locked-by Inv-loop μ-loop = search in
     let begun : tie.Start Inv-loop μ-loop = search in
     let a = begun .args .t1 in
     let k = c .before .loop in
-    let to = c .before .before .before .locked-by in
+    let to = at-locked-by .locked-by in
     rows-all a (to .result) (rows-length a (begun .good .0)) (k .i) (k .rows) (omega arith) (k .inv .2) (k .inv .3) ∙ ap (rowsTo a) (to .ensures)
 
 pub root-rows-spec : {M : Type 1} → statement M

@@ -34,8 +34,10 @@ same-length c = search needs
 
 returns : tie.Need-returns
 returns c =
-    let own = c .before .before .before .before .before .args in
-    stopped (own .arm) (own .tables .now) (own .dt) (c .before .before .before .step-arm .ensures) (c .before .step-refusal .ensures) (c .if1 .taken)
+    let at-step-arm : tie.After-step-arm = search in
+    let start : tie.Start = search in
+    let own = start .args in
+    stopped (own .arm) (own .tables .now) (own .dt) (at-step-arm .step-arm .ensures) (c .before .step-refusal .ensures) (c .if1 .taken)
 
 work-all-requires : tie.Need-work-all-requires
 work-all-requires c κs = search needs
@@ -45,8 +47,14 @@ same-length-2 c = search needs
 
 returns-2 : tie.Need-returns-2
 returns-2 c =
-    let own = c .before .before .before .before .before .before .before .before .before .args in
-    done (own .arm) (own .tables .now) (own .dt) (c .before .before .before .before .before .before .before .step-arm .ensures) (c .before .before .before .before .before .step-refusal .ensures) (c .before .before .before .before .if1 .left) (c .before .before .work-all .ensures)
+    let at-work-all : tie.After-work-all = search in
+    let accepted : tie.Else1 = search in
+    let at-step-refusal : tie.After-step-refusal = search in
+    let at-step-arm : tie.After-step-arm = search in
+    let start : tie.Start = search in
+    let own = start .args in
+    done (own .arm) (own .tables .now) (own .dt) (at-step-arm .step-arm .ensures) (at-step-refusal .step-refusal .ensures) (accepted .if1 .left)
+    (at-work-all .work-all .ensures)
 
 pub step-spec : {M : Type 1} → statement M
 step-spec =

@@ -21,7 +21,10 @@ with-links-requires : tie.Need-with-links-requires
 with-links-requires c κs = search needs
 
 returns : tie.Need-returns
-returns c = let s = c .before .before .before .before in c .with-links .ensures ∙ stepped (s .args .t1) _ _ _ (c .before .before .before .row-number .ensures) (c .before .step-links .ensures)
+returns c =
+    let at-row-number : tie.After-row-number = search in
+    let start : tie.Start = search in
+    c .with-links .ensures ∙ stepped (start .args .t1) _ _ _ (at-row-number .row-number .ensures) (c .before .step-links .ensures)
 
 pub step-arm-spec : {M : Type 1} → statement M
 step-arm-spec =

@@ -39,7 +39,9 @@ part-step-link-start : tie.Need-part-step-link-start Inv-loop μ-loop
 part-step-link-start c = omega (arith, start-small _ _ _ _ _ _ _ (c .before .before .before .loop .inv))
 
 part-step-link-end : tie.Need-part-step-link-end Inv-loop μ-loop
-part-step-link-end c = omega (arith, row-length (c .before .before .before .before .before .before .before .args .velocities) (c .before .before .before .before .before .before .before .good .1 .0))
+part-step-link-end c =
+    let start : tie.Start Inv-loop μ-loop = search in
+    omega (arith, row-length (start .args .velocities) (start .good .1 .0))
 
 step-link-requires : tie.Need-step-link-requires Inv-loop μ-loop
 step-link-requires c κs = search needs
@@ -54,7 +56,9 @@ dofs-requires : tie.Need-dofs-requires Inv-loop μ-loop
 dofs-requires c κs = search needs
 
 add-start : tie.Need-add-start Inv-loop μ-loop
-add-start c = omega (arith, start-small _ _ _ _ _ _ _ (c .before .before .before .before .before .before .loop .inv), dofs-small _ _ (c .dofs .ensures))
+add-start c =
+    let turn : tie.At-loop Inv-loop μ-loop = search in
+    omega (arith, start-small _ _ _ _ _ _ _ (turn .loop .inv), dofs-small _ _ (c .dofs .ensures))
 
 add-i : tie.Need-add-i Inv-loop μ-loop
 add-i c = search needs
@@ -64,14 +68,19 @@ loop-less c = search needs
 
 loop-again : tie.Need-loop-again Inv-loop μ-loop
 loop-again c =
-    let own = c .before .before .before .before .before .before .before .before .before .before .args in
-    let k = c .before .before .before .before .before .before .loop in
-    held-more _ _ _ _ (k .i) (k .start) (k .links) (k .inv) (omega arith) (c .dofs .result) (c .dofs .ensures) (c .before .step-link .result) (c .before .step-link .ensures ∙ rest-from _ (own .velocities .entries) (k .start) (own .dt) (row-length (own .velocities) (c .before .before .before .before .before .before .before .before .before .before .good .1 .0)))
+    let turn : tie.At-loop Inv-loop μ-loop = search in
+    let start : tie.Start Inv-loop μ-loop = search in
+    let own = start .args in
+    let k = turn .loop in
+    held-more _ _ _ _ (k .i) (k .start) (k .links) (k .inv) (omega arith) (c .dofs .result) (c .dofs .ensures) (c .before .step-link .result)
+    (c .before .step-link .ensures ∙ rest-from _ (own .velocities .entries) (k .start) (own .dt) (row-length (own .velocities) (start .good .1 .0)))
 
 returns : tie.Need-returns Inv-loop μ-loop
 returns c =
+    let at-live-links : tie.After-live-links Inv-loop μ-loop = search in
+    let start : tie.Start Inv-loop μ-loop = search in
     let k = c .before .loop in
-    held-all (c .before .before .before .before .before .args .arm) _ _ _ (c .before .before .before .before .live-links .ensures) (k .i) (k .start) (k .links) (k .inv) (omega arith)
+    held-all (start .args .arm) _ _ _ (at-live-links .live-links .ensures) (k .i) (k .start) (k .links) (k .inv) (omega arith)
 
 pub step-links-spec : {M : Type 1} → statement M
 step-links-spec =

@@ -39,13 +39,19 @@ lowest-requires c κs = search needs
 returns : tie.Need-returns
 unfolding stepRefusal stepTestsOf
 returns c =
-    let at-unless = c .before .before .before .before .before .before .before in
-    let s = at-unless .before .before .before .before in
+    let at-unless4 : tie.After-unless4 = search in
+    let at-arm-refusal : tie.After-arm-refusal = search in
+    let at-unless3 : tie.After-unless3 = search in
+    let at-unless2 : tie.After-unless2 = search in
+    let at-finite : tie.After-finite = search in
+    let at-unless : tie.After-unless = search in
+    let at-tables-fit : tie.After-tables-fit = search in
+    let at-step-tests : tie.After-step-tests = search in
     c .lowest .ensures
-    ∙ rw (at-unless .unless .ensures, c .before .before .before .before .before .unless2 .ensures, c .before .before .before .before .unless3 .ensures)
-    (rw (c .before .before .unless4 .ensures, c .before .before .before .arm-refusal .ensures)
-    (rw (c .before .before .before .before .before .before .finite .ensures, at-unless .before .tables-fit .ensures)
-    (rw (at-unless .before .before .step-tests .ensures))))
+    ∙ rw (at-unless .unless .ensures, at-unless2 .unless2 .ensures, at-unless3 .unless3 .ensures)
+    (rw (at-unless4 .unless4 .ensures, at-arm-refusal .arm-refusal .ensures)
+    (rw (at-finite .finite .ensures, at-tables-fit .tables-fit .ensures)
+    (rw (at-step-tests .step-tests .ensures))))
 
 pub step-refusal-spec : {M : Type 1} → statement M
 step-refusal-spec =

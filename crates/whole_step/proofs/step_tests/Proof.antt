@@ -57,10 +57,13 @@ loop-less c = search needs
 
 loop-again : tie.Need-loop-again Inv-loop μ-loop
 loop-again c =
-    let a = c .before .before .before .before .before .before .args .t1 in
-    let k = c .before .before .before .before .loop in
-    let w = links-length a (c .before .before .before .before .before .before .good .0) in
-    let fits : c .before .before .before .before .before .live-links .result ≤ length (a .links) = omega arith in (
+    let turn : tie.At-loop Inv-loop μ-loop = search in
+    let at-live-links : tie.After-live-links Inv-loop μ-loop = search in
+    let start : tie.Start Inv-loop μ-loop = search in
+    let a = start .args .t1 in
+    let k = turn .loop in
+    let w = links-length a (start .good .0) in
+    let fits : at-live-links .live-links .result ≤ length (a .links) = omega arith in (
       k .inv .0,
       omega arith,
       front-more linkAngleFits (a .links) _ fits (k .i) (k .angles) _ _ (omega arith) (c .before .angle-fits .ensures) (k .inv .2),
