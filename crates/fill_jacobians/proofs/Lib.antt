@@ -1,5 +1,3 @@
 mod Rows
-mod Wild
-mod Filled
 mod Accepted
 pub mod Theorems

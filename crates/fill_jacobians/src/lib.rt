@@ -1,14 +1,12 @@
 // `fill_jacobians`: what a force on a link does along each degree of freedom. An entry point: the link is any number, the arm handed in is tested, and the
 // lowest refusal of all is given. A refusal leaves all lent memory as it was.
 ghost use mathlib.Core.Path.{_≡_};
-ghost use mathlib.Core.Bool.{true};
 ghost use Prim.Native.Nat.{_*_, _≤_};
-ghost use lib.ListN.{length, take};
+ghost use lib.ListN.{length};
 ghost use Rattle.limits.specs.Limits.{dofLimit, blockSize};
-ghost use Rattle.floats.specs.Floats.{allFinite};
 ghost use Rattle.arm.specs.Arm.{entriesTo};
 ghost use Rattle.unit_multibody_joint.specs.Outcome.{out};
-ghost use Rattle.fill_jacobians.specs.Sums.{forceRow, dot, sumsOf, refusedSums, finiteSums, wildRefusal, fillBy};
+ghost use Rattle.fill_jacobians.specs.Sums.{forceRow, sumsOf, refusedSums, finiteSums, sumsAnswer};
 ghost use Rattle.fill_jacobians.specs.Fill.{forceFinite, fillRefusal, fillAnswer};
 use arm::Arm;
 use arm::Row;
@@ -18,14 +16,16 @@ use arm::dof_count;
 use arm::row_number;
 use floats::all_finite;
 use floats::copy;
+use floats::copy_part;
+use floats::dot_product;
 use floats::finite;
+use floats::is_finite_part;
 use limits::BLOCK;
 use limits::DOFS;
 use limits::TABLES;
-use refusal::lower;
+use refusal::lowest;
 use refusal::unless;
-use solve::solve;
-use unit_multibody_joint::is_finite_part;
+use solve::solve_any;
 use unit_multibody_joint::memory_fits;
 
 // A force and a torque on a link.
@@ -60,32 +60,16 @@ fn fill_row(force: Force, block: &[f32], row: &mut [f32])
     }
 }
 
-// The products of two rows, summed rising from +0.
-fn dot_product(row: &[f32], other: &[f32]) -> f32
-    requires { ⌜ length (now row) ≤ length (now other) ⌝ }
-    ensures { λ r. ⌜ r ≡ dot (now (row .entry)) (now (other .entry)) ⌝ }
-{
-    let mut sum = 0.0f32;
-    let mut i = 0;
-    while i < row.len() {
-        sum = sum + row[i] * other[i];
-        i += 1;
-    }
-    sum
-}
-
 // ---- Sums
 
 fn sums_of(row: &[f32], solved: &[f32], velocities: Row) -> Sums
-    requires { ⌜ (length (now row) ≤ length (now solved)) × (length (now row) ≤ dofLimit) ⌝ }
-    ensures { λ r. ⌜ r ≡ sumsOf (now (row .entry)) (now (solved .entry)) (entriesTo (length (now (row .entry))) velocities) ⌝ }
+    ensures { λ r. ⌜ r ≡ sumsOf (now (row .entry)) (now (solved .entry)) (velocities .entries) ⌝ }
 {
-    let n = row.len();
     let entries = velocities.entries;
     Sums {
         refusal: 0,
         j_wj: dot_product(row, solved),
-        j_velocities: dot_product(row, &entries[0..n]),
+        j_velocities: dot_product(row, &entries),
     }
 }
 
@@ -105,18 +89,28 @@ fn refused_sums(refusal: u8) -> Sums
     }
 }
 
-// What refuses a j that isn't finite: the matrix's own trouble, 11 or 12, is met first; else 12.
-fn wild_refusal(n: usize, mass: &[f32]) -> u8
-    requires { ⌜ (n ≤ dofLimit) × (n * n ≤ length (now mass)) × (allFinite (take (n * n) (now mass)) ≡ true) ⌝ }
-    ensures { λ r. ⌜ r ≡ wildRefusal n (take (n * n) (now (mass .entry))) ⌝ }
+// wj and the sums of a row j, once no test refuses them. They are worked out beside the lent memory: a result may still be refused.
+fn sum_up(row: &[f32], velocities: Row, mass: &[f32], j: &mut [f32], wj: &mut [f32]) -> Sums
+    requires { ⌜ (length (now row) ≤ dofLimit) × (length (now row) * length (now row) ≤ length (now mass)) × (length (now row) ≤ length (now j)) × (length (now row) ≤ length (now wj)) ⌝ }
+    ensures { λ r. ⌜ out r (now (j .exit)) (now (wj .exit)) ≡ sumsAnswer (now (row .entry)) (entriesTo (length (now (row .entry))) velocities) 0 (length (now (row .entry))) (now (mass .entry)) (now (j .entry)) (now (wj .entry)) ⌝ }
 {
-    let zeros = [0.0f32; DOFS];
+    let n = row.len();
     let mut solved = [0.0f32; DOFS];
-    let trouble = solve(n, mass, &zeros, &mut solved);
-    if trouble != 0 { trouble } else { 12 }
+    let trouble = solve_any(n, mass, row, &mut solved);
+    if trouble != 0 {
+        return refused_sums(trouble);
+    }
+    let sums = sums_of(row, &solved, velocities);
+    let fine = all_finite(row) & are_finite_sums(sums);
+    if !fine {
+        return refused_sums(12);
+    }
+    copy(j, row);
+    copy_part(wj, 0, &solved, 0, n);
+    sums
 }
 
-// j, wj and the sums, once no test refuses them. They are worked out beside the lent memory: a result may still be refused.
+// j, and what it sums up to, once no test refuses them.
 fn fill(
     n: usize,
     force: Force,
@@ -126,26 +120,12 @@ fn fill(
     j: &mut [f32],
     wj: &mut [f32],
 ) -> Sums
-    requires { ⌜ (n ≤ dofLimit) × (length (now block) ≡ blockSize) × (n * n ≤ length (now mass)) × (allFinite (take (n * n) (now mass)) ≡ true) × (n ≤ length (now j)) × (n ≤ length (now wj)) ⌝ }
-    ensures { λ r. ⌜ out r (now (j .exit)) (now (wj .exit)) ≡ fillBy 0 n force (now (block .entry)) (entriesTo n velocities) (now (mass .entry)) (now (j .entry)) (now (wj .entry)) ⌝ }
+    requires { ⌜ (n ≤ dofLimit) × (length (now block) ≡ blockSize) × (n * n ≤ length (now mass)) × (n ≤ length (now j)) × (n ≤ length (now wj)) ⌝ }
+    ensures { λ r. ⌜ out r (now (j .exit)) (now (wj .exit)) ≡ sumsAnswer (forceRow force (now (block .entry)) n) (entriesTo n velocities) 0 n (now (mass .entry)) (now (j .entry)) (now (wj .entry)) ⌝ }
 {
     let mut row = [0.0f32; DOFS];
     fill_row(force, block, &mut row[0..n]);
-    if !all_finite(&row[0..n]) {
-        return refused_sums(wild_refusal(n, mass));
-    }
-    let mut solved = [0.0f32; DOFS];
-    let trouble = solve(n, mass, &row, &mut solved);
-    if trouble != 0 {
-        return refused_sums(trouble);
-    }
-    let sums = sums_of(&row[0..n], &solved[0..n], velocities);
-    if !are_finite_sums(sums) {
-        return refused_sums(12);
-    }
-    copy(j, &row[0..n]);
-    copy(wj, &solved[0..n]);
-    sums
+    sum_up(&row[0..n], velocities, mass, j, wj)
 }
 
 // ---- The call
@@ -168,19 +148,18 @@ fn fill_refusal(
     ensures { λ r. ⌜ r ≡ fillRefusal arm link force (now (tables .entry)) (now (mass .entry)) «j_room» «wj_room» ⌝ }
 {
     let n = dof_count(arm);
-    let nn = n * n;
     let at = (link as usize) * BLOCK;
     let room = (TABLES <= tables.len()) & memory_fits(n, mass, j_room, wj_room);
     let fine = is_finite_force(force)
         & is_finite_part(tables, at, BLOCK)
-        & is_finite_part(mass, 0, nn);
-    lower(
+        & is_finite_part(mass, 0, n * n);
+    let refusals = [
         unless(room, 1),
-        lower(
-            unless((link as usize) < arm.link_count, 4),
-            lower(unless(fine, 7), arm_refusal(arm)),
-        ),
-    )
+        unless((link as usize) < arm.link_count, 4),
+        unless(fine, 7),
+        arm_refusal(arm),
+    ];
+    lowest(&refusals)
 }
 
 // The first n floats of `j` become the force's part along each DoF, and those of `wj` its solve by the mass matrix, n being the DoF count.

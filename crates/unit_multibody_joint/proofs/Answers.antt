@@ -44,42 +44,58 @@ unfolding orThen
 or-second zero l h = refl
 or-second (suc k) l h = absurd (omega arith)
 
--- ---- a call that solves the row J, n long
-module _ {A : Type 0} (refused : ℕ → A) (fine : A → Bool) (made : List Float → A) (n : ℕ) (row m j wj : List Float) where
+-- ---- a call that solves J
+
+-- J, n long, was solved by the matrix m: the answer was t, and z then stands in the array of zeros that was lent
+pub record Ran (n : ℕ) (row m z : List Float) (t : ℕ) : Type 0 where
+  pub few : n ≤ dofLimit
+  pub long : length row ≡ n
+  pub matrix : n * n ≤ length m
+  pub same : length z ≡ dofLimit
+  pub left : answer t z ≡ solveAny n m row (replicate dofLimit zero32)
+
+module _ {n : ℕ} {row m z : List Float} {t : ℕ} (ran : Ran n row m z t) where
+  abbrev zeros : List Float
+  zeros = replicate dofLimit zero32
+
   abbrev o : Answer
   o = solution n (take (n * n) m) row
 
+  room : n ≤ length zeros
+  room = omega (arith, length-replicate dofLimit zero32, ran .few)
+
+  solved : answer t z ≡ into n 0 o zeros
+  solved = ran .left ∙ any-fits n m row zeros (ran .few) (ran .matrix) (omega (arith, ran .long)) room ∙ rw (take-all n row (omega (arith, ran .long)))
+
+  trouble : t ≡ o .refusal
+  trouble = trouble-is n o zeros z t solved
+
+  module _ (good : t ≡ 0) where
+    front : take n z ≡ o .result
+    front = result-is n o zeros z t solved good room (ran .same ∙ sym (length-replicate dofLimit zero32))
+
+    front-length : length (o .result) ≡ n
+    front-length = result-length n o zeros z t solved good room (ran .same ∙ sym (length-replicate dofLimit zero32))
+
+module _ {A : Type 0} (refused : ℕ → A) (fine : A → Bool) (made : List Float → A) where
   -- refused before
-  pub refused-first : (k l : ℕ) (r : A) → l ≡ k → (l ≡ 0 → ⊥) → r ≡ refused l → out r j wj ≡ solvedAnswer refused fine made k n row m j wj
+  pub refused-first : (n : ℕ) (row m j wj : List Float) (k l : ℕ) (r : A) → l ≡ k → (l ≡ 0 → ⊥) → r ≡ refused l
+      → out r j wj ≡ solvedAnswer refused fine made k n row m j wj
   unfolding solvedAnswer
-  refused-first k l r p h e = says refused r _ _ _ j wj l _ (or-first l k _ p h) h e
+  refused-first n row m j wj k l r p h e = says refused r _ _ _ j wj l _ (or-first l k _ p h) h e
 
-  -- not refused before: z is the local WJ, t the solve's answer
-  module _ (few : n ≤ dofLimit) (long : length row ≡ n) (lm : n * n ≤ length m) (z : List Float) (t : ℕ) (lz : length z ≡ dofLimit)
-      (e : answer t z ≡ solveAny n m row (replicate dofLimit zero32)) where
-    abbrev zeros : List Float
-    zeros = replicate dofLimit zero32
-
-    zeros-length : length zeros ≡ dofLimit
-    zeros-length = length-replicate dofLimit zero32
-
-    solved : answer t z ≡ into n 0 o zeros
-    solved = e ∙ any-fits n m row zeros few lm (omega arith) (omega (arith, zeros-length)) ∙ rw (take-all n row (omega arith))
-
+  module _ {n : ℕ} {row m z : List Float} {t : ℕ} (ran : Ran n row m z t) (j wj : List Float) where
     pub in-trouble : (t ≡ 0 → ⊥) → (r : A) → r ≡ refused t → out r j wj ≡ solvedAnswer refused fine made 0 n row m j wj
     unfolding solvedAnswer orThen
-    in-trouble h r er = says refused r _ _ _ j wj t _ (or-first t (o .refusal) _ (trouble-is n o zeros z t solved) h) h er
+    in-trouble h r er = says refused r _ _ _ j wj t _ (or-first t (o ran .refusal) _ (trouble ran) h) h er
 
     -- r is what the code makes of z
     module _ (good : t ≡ 0) (r : A) (er : r ≡ made (take n z)) where
-      front : take n z ≡ o .result
-      front = result-is n o zeros z t solved good (omega (arith, zeros-length)) (lz ∙ sym zeros-length)
+      made-is : r ≡ made (o ran .result)
+      made-is = er ∙ ap made (front ran good)
 
-      made-is : r ≡ made (o .result)
-      made-is = er ∙ ap made front
-
-      refusal-is : orThen (o .refusal) (unlessOf (fine (made (o .result))) 12) ≡ unlessOf (fine r) 12
-      refusal-is = or-second (o .refusal) _ (sym (trouble-is n o zeros z t solved) ∙ good) ∙ ap (λ (a : A). unlessOf (fine a) 12) (sym made-is)
+      refusal-is : orThen (o ran .refusal) (unlessOf (fine (made (o ran .result))) 12) ≡ unlessOf (fine r) 12
+      refusal-is = or-second (o ran .refusal) _ (sym (trouble ran) ∙ good) ∙ ap (λ (a : A). unlessOf (fine a) 12) (sym made-is)
 
       pub not-finite : fine r ≡ false → (q : A) → q ≡ refused 12 → out q j wj ≡ solvedAnswer refused fine made 0 n row m j wj
       unfolding solvedAnswer orThen
@@ -89,7 +105,7 @@ module _ {A : Type 0} (refused : ℕ → A) (fine : A → Bool) (made : List Flo
           → out r j₁ wj₁ ≡ solvedAnswer refused fine made 0 n row m j wj
       unfolding solvedAnswer orThen
       all-made h lj lwj j₁ wj₁ ej ewj =
-          let over : overlaid j row ≡ laid row j = overlaid-front n j row long lj ∙ rw long in
-          let length-is : length (o .result) ≡ n = result-length n o zeros z t solved good (omega (arith, zeros-length)) (lz ∙ sym zeros-length) in
-          let copied : copiedPart 0 0 n wj z ≡ laid (o .result) wj = copied-fits 0 0 n wj z (omega arith) (omega arith) ∙ rw (zero-add, front, length-is) in
+          let over : overlaid j row ≡ laid row j = overlaid-front n j row (ran .long) lj ∙ rw (ran .long) in
+          let fits = copied-fits 0 0 n wj z (omega arith) (omega (arith, ran .few, ran .same)) in
+          let copied : copiedPart 0 0 n wj z ≡ laid (o ran .result) wj = fits ∙ rw (zero-add, front ran good, front-length ran good) in
           gives refused r _ _ _ j wj _ (refusal-is ∙ rw h) made-is j₁ wj₁ (ej ∙ over) (ewj ∙ copied)

@@ -1,12 +1,18 @@
 -- `fill_jacobians`: a refusal ends it; else the tests tell that all fits, and `fill` gives the sums. Assumes nothing.
-use Rattle.fill_jacobians.proofs.Accepted.{block-inside, block-part, fill-ready}
-use Rattle.fill_jacobians.proofs.Filled.{fill-on, fill-refused}
-use Rattle.fill_jacobians.specs.Fill.{fillAnswer}
-use mathlib.Core.Path.{_∙_, refl, sym}
+use Prim.Native.Nat.{_+_, _*_, _≤_}
+use mathlib.Core.Path.{_≡_, _∙_, refl, sym}
+use mathlib.Core.List.{[]}
 use native.Mathlib.Omega.{arith}
+use lib.ListN.{length}
+use Rattle.limits.specs.Limits.{blockSize}
+use Rattle.arm.specs.declared.Row.{Row}
 use Rattle.arm.specs.declared.RowName.the-variants.{Velocities}
 use Rattle.arm.proofs.Shape.{rows-length}
-use Rattle.unit_multibody_joint.proofs.Parts.{row-front}
+use Rattle.unit_multibody_joint.proofs.Rows.{row-front}
+use Rattle.unit_multibody_joint.proofs.Answers.{refused-first}
+use Rattle.fill_jacobians.specs.Sums.{sumsAnswer}
+use Rattle.fill_jacobians.specs.Fill.{fillAnswer, fillRefusal}
+use Rattle.fill_jacobians.proofs.Accepted.{block-inside, block-part, fill-ready}
 use borrow.Author.Needs.{needs}
 use Rattle.fill_jacobians.proofs.fill_jacobians.Statement.{statement}
 use Rattle.fill_jacobians.proofs.fill_jacobians.Tie as tie
@@ -18,10 +24,23 @@ refused-sums-requires : tie.Need-refused-sums-requires
 refused-sums-requires c κs = search needs
 
 returns : tie.Need-returns
-unfolding fillAnswer
+unfolding fillAnswer sumsAnswer
 returns c =
-    let at-fill-refusal = c .before .before in
-    fill-refused _ _ _ _ _ _ _ _ (at-fill-refusal .fill-refusal .result) (c .refused-sums .result) (at-fill-refusal .fill-refusal .ensures) (c .before .if1 .taken) (c .refused-sums .ensures)
+    let k = c .before .before .fill-refusal in
+    refused-first _ _ _ _ _ _ _ _ _ (k .result) (c .refused-sums .result) (k .ensures) (c .before .if1 .taken) (c .refused-sums .ensures)
+
+abbrev noRow : Row
+noRow = record { entries = [] }
+
+-- what an accepted call knows
+abbrev start : tie.Else1 → tie.Start
+start c = c .before .before .before .before .before .before
+
+accepted : (c : tie.Else1) → let a = start c .args in fillRefusal (a .t1) (a .link) (a .force) (a .tables .now) (a .mass .now) (length (a .j .now)) (length (a .wj .now)) ≡ 0
+accepted c = sym (c .before .fill-refusal .ensures) ∙ c .if1 .left
+
+inside : (c : tie.Else1) → start c .args .link * blockSize + blockSize ≤ length (start c .args .tables .now)
+inside c = let a = start c .args in block-inside (a .t1) (a .link) (a .force) (a .tables .now) (a .mass .now) (length (a .j .now)) (length (a .wj .now)) (accepted c)
 
 mul-at : tie.Need-mul-at
 mul-at c = search needs
@@ -48,26 +67,19 @@ sub-fill : tie.Need-sub-fill
 sub-fill c = search needs
 
 part-fill-start : tie.Need-part-fill-start
-part-fill-start c =
-    let start = c .before .before .before .before .before .before .before .before .before in
-    let at-fill-refusal = c .before .before .before .before in
-    let at-if1 = c .before .before .before in
-    omega (arith, block-inside (start .args .t1) (start .args .link) (start .args .force) (start .args .tables .now) (start .args .mass .now) _ _ (sym (at-fill-refusal .fill-refusal .ensures) ∙ at-if1 .if1 .left))
+part-fill-start c = let k : tie.Else1 = c .before .before .before in omega (arith, inside k)
 
 part-fill-end : tie.Need-part-fill-end
-part-fill-end c =
-    let start = c .before .before .before .before .before .before .before .before .before in
-    let at-fill-refusal = c .before .before .before .before in
-    let at-if1 = c .before .before .before in
-    omega (arith, block-inside (start .args .t1) (start .args .link) (start .args .force) (start .args .tables .now) (start .args .mass .now) _ _ (sym (at-fill-refusal .fill-refusal .ensures) ∙ at-if1 .if1 .left))
+part-fill-end c = let k : tie.Else1 = c .before .before .before in omega (arith, inside k)
 
 fill-requires : tie.Need-fill-requires
 fill-requires c κs =
-    let start = c .before .before .before .before .before .before .before .before .before .before .before .before in
-    let at-fill-refusal = c .before .before .before .before .before .before .before in
-    let at-if1 = c .before .before .before .before .before .before in
-    let at-dof-count = c .before .before .before in
-    fill-ready (start .args .t1) (start .args .link) (start .args .force) (start .args .tables .now) (start .args .mass .now) _ _ (sym (at-fill-refusal .fill-refusal .ensures) ∙ at-if1 .if1 .left) (at-dof-count .dof-count .result) _ _ (at-dof-count .dof-count .ensures) refl refl
+    let counted : tie.After-dof-count = c .before .before .before in
+    let k : tie.Else1 = counted .before .before .before in
+    let a = start k .args in
+    let n = counted .dof-count in
+    fill-ready (a .t1) (a .link) (a .force) (a .tables .now) (a .mass .now) (length (a .j .now)) (length (a .wj .now)) (accepted k)
+    (n .result) (a .link * blockSize) (a .link * blockSize + blockSize) (n .ensures) refl refl
 
 same-length : tie.Need-same-length
 same-length c = search needs
@@ -78,13 +90,14 @@ same-length-2 c = search needs
 returns-2 : tie.Need-returns-2
 unfolding fillAnswer
 returns-2 c =
-    let start = c .before .before .before .before .before .before .before .before .before .before .before .before .before .before .before .before .before in
-    let at-fill-refusal = c .before .before .before .before .before .before .before .before .before .before .before .before in
-    let at-if1 = c .before .before .before .before .before .before .before .before .before .before .before in
-    let at-row-number = c .before .before .before .before .before .before .before .before .before .before in
-    let at-dof-count = c .before .before .before .before .before .before .before .before in
-    let at-fill = c .before .before .before .before in
-    fill-on _ (at-fill-refusal .fill-refusal .result) _ _ _ _ _ _ _ _ _ _ _ (at-fill-refusal .fill-refusal .ensures) (at-if1 .if1 .left) (at-dof-count .dof-count .ensures) (block-part (start .args .link) _ _ (start .args .tables .now) refl refl) (row-front (start .args .t1) Velocities _ (at-dof-count .dof-count .result) (at-row-number .row-number .result) (rows-length (start .args .t1) (start .good .0)) (at-dof-count .dof-count .ensures) (at-row-number .row-number .ensures)) (at-fill .fill .ensures)
+    let counted : tie.After-dof-count = search in
+    let k : tie.Else1 = counted .before .before .before in
+    let s = start k in
+    let a = s .args in
+    let row = counted .before .before .row-number in
+    let n = counted .dof-count in
+    let front = row-front (a .t1) Velocities noRow (n .result) (row .result) (rows-length (a .t1) (s .good .0)) (n .ensures) (row .ensures) in
+    c .before .before .before .before .fill .ensures ∙ rw (block-part (a .link) (a .link * blockSize) (a .link * blockSize + blockSize) (a .tables .now) refl refl, front, n .ensures, accepted k)
 
 pub fill-jacobians-spec : {M : Type 1} → statement M
 fill-jacobians-spec =

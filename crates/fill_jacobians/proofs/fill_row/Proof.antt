@@ -59,19 +59,20 @@ loop-less c = search needs
 
 loop-again : tie.Need-loop-again Inv-loop μ-loop
 loop-again c =
-    let start = c .before .before .before .before .before .before .before .before in
-    let at-loop = c .before .before .before .before .before .before .before in
-    let at-loop-test = c .before .before .before .before .before .before in
-    (omega arith, length-set (at-loop .loop .row) (at-loop .loop .c) _ ∙ at-loop .loop .inv .1, force-more (start .args .force) (start .args .block .now) (at-loop .loop .row) (at-loop .loop .c) _ (at-loop-test .loop-test .taken) (at-loop .loop .inv .2) refl)
+    let s : tie.Start Inv-loop μ-loop = search in
+    let begun : tie.In-loop Inv-loop μ-loop = search in
+    let l = begun .before .loop in
+    let more = force-more (s .args .force) (s .args .block .now) (l .row) (l .c) _ (begun .loop-test .taken) (l .inv .2) refl in
+    (omega arith, length-set (l .row) (l .c) _ ∙ l .inv .1, more)
 
 same-length : tie.Need-same-length Inv-loop μ-loop
 same-length c = search needs
 
 returns : tie.Need-returns Inv-loop μ-loop
 returns c =
-    let start = c .before .before in
-    let at-loop = c .before in
-    force-all (start .args .force) (start .args .block .now) (at-loop .loop .row) (at-loop .loop .c) (length (start .args .row .now)) (at-loop .loop .inv .1) (omega arith) (at-loop .loop .inv .0) (at-loop .loop .inv .2)
+    let a = c .before .before .args in
+    let l = c .before .loop in
+    force-all (a .force) (a .block .now) (l .row) (l .c) (length (a .row .now)) (l .inv .1) (omega arith) (l .inv .0) (l .inv .2)
 
 pub fill-row-spec : {M : Type 1} → statement M
 fill-row-spec =

@@ -1,17 +1,43 @@
 -- `constrain`: the local WJ is the definition's; each way out is its case of the refusals after the tests. Assumes nothing.
-use mathlib.Core.Path.{_∙_, ap, refl, sym}
+use mathlib.Core.Path.{_≡_, _∙_, ap, refl, sym}
+use mathlib.Core.List.{List}
 use borrow.Author.Tests.{not-true, not-false}
-use lib.ListN.{length}
-use lib.Ieee.{nan}
+use lib.ListN.{length, take, getD}
+use lib.Ieee.{Float, nan}
 use lib.Seq.{getD-take}
+use Rattle.unit_multibody_joint.specs.declared.ConstraintRow.{ConstraintRow}
 use Rattle.unit_multibody_joint.specs.Rows.{rowOf, refusedRow, finiteRow, rowAnswer, lhsAt}
-use Rattle.unit_multibody_joint.proofs.Answers.{in-trouble, not-finite, all-made}
+use Rattle.unit_multibody_joint.proofs.Answers.{Ran, in-trouble, not-finite, all-made}
 use borrow.Author.Needs.{needs}
 use Rattle.unit_multibody_joint.proofs.constrain.Statement.{statement}
 use Rattle.unit_multibody_joint.proofs.constrain.Tie as tie
 
-abbrev start : tie.After-solve-any → tie.Start
-start c = c .before .before .before .before .before .before
+-- the solve that was run
+abbrev start : tie.After-solved2 → tie.Start
+start c = c .before .before .before .before .before .before .before
+
+abbrev ranOf : tie.After-solved2 → Type 0
+ranOf c =
+    let a = start c .args in
+    let v = c .before .solve-any in
+    Ran (length (a .row .now)) (a .row .now) (a .mass .now) (v .last .1 .1 .1 .0) (v .result)
+
+ran : (c : tie.After-solved2) → ranOf c
+ran c = let p = start c .pre in record { few = p .0; long = refl; matrix = p .2; same = c .solved2 .given; left = c .before .solve-any .ensures }
+
+abbrev made : tie.After-solved2 → List Float → ConstraintRow
+made c w = let a = start c .args in rowOf (a .b) (a .cfm-coeff) (lhsAt (a .at) w)
+
+-- what stands at the DoF stands in the front
+read : (c : tie.After-solved2)
+    → let a = start c .args in
+    let z = c .before .solve-any .last .1 .1 .1 .0 in
+    rowOf (a .b) (a .cfm-coeff) (getD z (a .at) nan) ≡ made c (take (length (a .row .now)) z)
+unfolding lhsAt
+read c =
+    let s = start c in
+    let a = s .args in
+    ap (rowOf (a .b) (a .cfm-coeff)) (sym (getD-take (length (a .row .now)) (c .before .solve-any .last .1 .1 .1 .0) (a .at) nan (s .pre .1)))
 
 slice-aggregate-solve-any : tie.Need-slice-aggregate-solve-any
 slice-aggregate-solve-any c = search needs
@@ -25,12 +51,9 @@ refused-row-requires c κs = search needs
 returns : tie.Need-returns
 unfolding rowAnswer
 returns c =
-    let back = c .before .before in
-    let v = back .before .solve-any in
-    let s = start (back .before) in
-    let a = s .args in
-    in-trouble refusedRow finiteRow (λ w. rowOf (a .b) (a .cfm-coeff) (lhsAt (a .at) w)) (length (a .row .now)) (a .row .now) (a .mass .now) (a .j .now) (a .wj .now)
-    (s .pre .0) refl (s .pre .2) (v .last .1 .1 .1 .0) (v .result) (back .solved2 .given) (v .ensures) (c .before .if1 .taken) (c .refused-row .result) (c .refused-row .ensures)
+    let z = c .before .before in
+    let a = start z .args in
+    in-trouble refusedRow finiteRow (made z) (ran z) (a .j .now) (a .wj .now) (c .before .if1 .taken) (c .refused-row .result) (c .refused-row .ensures)
 
 mul-row-of : tie.Need-mul-row-of
 mul-row-of c = search needs
@@ -48,17 +71,13 @@ refused-row-requires-2 : tie.Need-refused-row-requires-2
 refused-row-requires-2 c κs = search needs
 
 returns-2 : tie.Need-returns-2
-unfolding rowAnswer lhsAt
+unfolding rowAnswer
 returns-2 c =
-    let good : tie.Else1 = c .before .before .before .before in
-    let back = good .before in
-    let v = back .before .solve-any in
-    let s = start (back .before) in
-    let a = s .args in
     let r = c .before .before .before .row-of in
-    let read = ap (rowOf (a .b) (a .cfm-coeff)) (sym (getD-take (length (a .row .now)) (v .last .1 .1 .1 .0) (a .at) nan (s .pre .1))) in
-    not-finite refusedRow finiteRow (λ w. rowOf (a .b) (a .cfm-coeff) (lhsAt (a .at) w)) (length (a .row .now)) (a .row .now) (a .mass .now) (a .j .now) (a .wj .now)
-    (s .pre .0) refl (s .pre .2) (v .last .1 .1 .1 .0) (v .result) (back .solved2 .given) (v .ensures) (good .if1 .left) (r .result) (r .ensures ∙ read)
+    let good : tie.Else1 = c .before .before .before .before in
+    let z = good .before in
+    let a = start z .args in
+    not-finite refusedRow finiteRow (made z) (ran z) (a .j .now) (a .wj .now) (good .if1 .left) (r .result) (r .ensures ∙ read z)
     (sym (c .before .before .is-finite-row .ensures) ∙ not-true _ (c .before .if2 .taken)) (c .refused-row2 .result) (c .refused-row2 .ensures)
 
 copy-requires : tie.Need-copy-requires
@@ -77,20 +96,17 @@ same-length-2 : tie.Need-same-length-2
 same-length-2 c = search needs
 
 returns-3 : tie.Need-returns-3
-unfolding rowAnswer lhsAt
+unfolding rowAnswer
 returns-3 c =
     let x : tie.After-copy = search in
     let finite : tie.Else2 = x .before .before in
-    let good : tie.Else1 = finite .before .before .before in
-    let back = good .before in
-    let v = back .before .solve-any in
-    let s = start (back .before) in
-    let a = s .args in
     let r = finite .before .before .row-of in
-    let read = ap (rowOf (a .b) (a .cfm-coeff)) (sym (getD-take (length (a .row .now)) (v .last .1 .1 .1 .0) (a .at) nan (s .pre .1))) in
+    let good : tie.Else1 = finite .before .before .before in
+    let z = good .before in
+    let s = start z in
+    let a = s .args in
     let y = c .before .before .copy-part in
-    all-made refusedRow finiteRow (λ w. rowOf (a .b) (a .cfm-coeff) (lhsAt (a .at) w)) (length (a .row .now)) (a .row .now) (a .mass .now) (a .j .now) (a .wj .now)
-    (s .pre .0) refl (s .pre .2) (v .last .1 .1 .1 .0) (v .result) (back .solved2 .given) (v .ensures) (good .if1 .left) (r .result) (r .ensures ∙ read)
+    all-made refusedRow finiteRow (made z) (ran z) (a .j .now) (a .wj .now) (good .if1 .left) (r .result) (r .ensures ∙ read z)
     (sym (finite .before .is-finite-row .ensures) ∙ not-false _ (finite .if2 .left)) (s .pre .3) (s .pre .4) (x .copy .last .0) (y .last .0) (x .copy .ensures) (y .ensures)
 
 pub constrain-spec : {M : Type 1} → statement M
