@@ -2,16 +2,21 @@
 use Prim.Native.Nat.{ℕ, _*_}
 use mathlib.Core.Path.{_≡_}
 use mathlib.Core.List.{List, [], _∷_, _++_, map}
-use lib.ListN.{length, replicate}
+use lib.ListN.{length, replicate, set}
 use lib.Ieee.{nan, binary32, toBits}
+use Rattle.floats.specs.Floats.{f32, zero32, one32}
+use Rattle.masks.specs.Masks.{dofsOf}
+use Rattle.masks.specs.Answers.{startsAnswer, dampingAnswer, constraintsAnswer}
+use Rattle.planar.specs.Poses.{identityPose, origin}
 use Rattle.topology.specs.declared.Split.{Split}
 use Rattle.topology.specs.declared.Split.the-variants.{Delete, Cut}
 use Rattle.topology.specs.Answers.{splitAnswer}
-use Rattle.masks.specs.Masks.{dofsOf}
-use Rattle.masks.specs.Answers.{startsAnswer, dampingAnswer, constraintsAnswer}
-use Rattle.floats.specs.Floats.{f32, zero32}
+use Rattle.multibody_joint.specs.Joint.{newJoint}
+use Rattle.arm.specs.declared.Arm.{Arm}
+use Rattle.arm.specs.Setters.{armWith, unplaced}
+use Rattle.arm.specs.Empty.{emptyArm}
 use Rattle.unit_multibody_joint.specs.declared.Limits.{Limits}
-use Rattle.unit_multibody_joint.specs.Rows.{limitBounds}
+use Rattle.unit_multibody_joint.specs.Answers.{limitAnswer}
 
 pub data Question : Type 0 where
   -- a split of a list of parents
@@ -22,15 +27,18 @@ pub data Question : Type 0 where
   damping : ℕ → Question
   -- the constraint count of locked, limit and motor masks
   constraints : ℕ → ℕ → ℕ → Question
-  -- the limit row of min, max, pos and erp_inv_dt, floats by their bits
+  -- the limit row of min, max, pos and erp_inv_dt, floats by their bits, on the one DoF of an arm whose mass matrix is 1
   limitRow : ℕ → ℕ → ℕ → ℕ → Question
 
--- what is given of a limit; neither dt nor cfm_coeff tells in its bounds and its right side
+-- an arm with one degree of freedom: a fixed root, and a link whose angle is free
+abbrev pub finger : Arm
+finger = armWith emptyArm 2 0 (set (emptyArm .links) 1 (unplaced 1 0 (newJoint 3 4 0 identityPose identityPose) origin)) (emptyArm .couplings) (emptyArm .rows)
+
+-- what is given of a limit, with no dt and no cfm_coeff
 abbrev pub limitsOf : ℕ → ℕ → ℕ → ℕ → Limits
 limitsOf min max pos erp = record { position = f32 pos; min = f32 min; max = f32 max; dt = zero32; «erp_inv_dt» = f32 erp; «cfm_coeff» = zero32 }
 
--- the answer as numbers: the refusal, the count if there is one, then what lent memory of just the needed length holds; of a limit row both bounds and the
--- rhs; a float by its bits
+-- the answer as numbers: the refusal, the count or the row, then what lent memory of just the needed length holds; a float by its bits
 unfoldable pub answer : Question → List ℕ
 answer (split parents s) =
     let o = splitAnswer parents s (replicate (2 * length parents) 0) in
@@ -45,8 +53,9 @@ answer (constraints locked limit motor) =
     let a = constraintsAnswer locked limit motor in
     a .refusal ∷ a .count ∷ []
 answer (limitRow min max pos erp) =
-    let b = limitBounds (limitsOf min max pos erp) in
-    map (toBits binary32) (b .lower ∷ b .upper ∷ b .rhs ∷ [])
+    let o = limitAnswer finger 1 2 (limitsOf min max pos erp) (one32 ∷ []) (nan ∷ []) (nan ∷ []) in
+    let r = o .answer in
+    r .refusal ∷ map (toBits binary32) ((r .lower ∷ r .upper ∷ r .rhs ∷ r .«cfm_gain» ∷ r .«inv_lhs» ∷ []) ++ o .j ++ o .wj)
 
 -- the parents of P1 to P5
 abbrev pub A : List ℕ
@@ -58,6 +67,10 @@ link part number = part ∷ number ∷ []
 
 abbrev pub gone : List ℕ
 gone = link 255 255
+
+-- of a limit row: cfm_gain is +0, inv_lhs 1, J and WJ are 1
+abbrev pub gains : List ℕ
+gains = 0 ∷ 0x3F80_0000 ∷ 0x3F80_0000 ∷ 0x3F80_0000 ∷ []
 
 -- P1 to P11
 abbrev pub marked : List (Question × List ℕ)
@@ -71,8 +84,8 @@ marked =
     ∷ (starts (7 ∷ 3 ∷ 3 ∷ 0 ∷ []), 0 ∷ 5 ∷ 0 ∷ 0 ∷ 1 ∷ 2 ∷ [])
     ∷ (damping 0, 0 ∷ 3 ∷ 0 ∷ 0 ∷ 0x3DCC_CCCD ∷ [])
     ∷ (constraints 3 7 4, 0 ∷ 2 ∷ [])
-    ∷ (limitRow 0 0x3F80_0000 0x4000_0000 0x4120_0000, 0x8000_0000 ∷ 0x7F7F_FFFF ∷ 0x4120_0000 ∷ [])
-    ∷ (limitRow 0 0x3F80_0000 0x3F80_0000 0x4120_0000, 0x8000_0000 ∷ 0 ∷ 0 ∷ [])
+    ∷ (limitRow 0 0x3F80_0000 0x4000_0000 0x4120_0000, 0 ∷ 0x8000_0000 ∷ 0x7F7F_FFFF ∷ 0x4120_0000 ∷ gains)
+    ∷ (limitRow 0 0x3F80_0000 0x3F80_0000 0x4120_0000, 0 ∷ 0x8000_0000 ∷ 0 ∷ 0 ∷ gains)
     ∷ []
 
 -- each question of a table has its answer
