@@ -25,7 +25,7 @@ extern "C" {
 /* ---- What archive this is the header of */
 
 /* `giellavor_fits`, at the end, compares all of it. */
-#define GIELLAVOR_VERSION 1
+#define GIELLAVOR_VERSION 2
 
 /* The version of the archive. */
 uint32_t giellavor_version(void);
@@ -175,13 +175,7 @@ typedef struct GiellavorRotated {
     GiellavorRotation rotation;
 } GiellavorRotated;
 
-/* A count of DoFs or of constraints. */
-typedef struct GiellavorCount {
-    uint8_t refusal;
-    uint8_t count;
-} GiellavorCount;
-
-/* How much lent memory holds. */
+/* A count: of DoFs, of constraints, of parts, or of what was written into lent memory. */
 typedef struct GiellavorCounted {
     uint8_t refusal;
     size_t count;
@@ -233,16 +227,16 @@ GiellavorCounted giellavor_split_delete(const uint8_t *parents, size_t parents_l
 GiellavorCounted giellavor_split_cut(const uint8_t *parents, size_t parents_len, uint32_t link, uint8_t *map, size_t map_len);
 
 /* The DoF count of a mask. Refused: 5. */
-GiellavorCount giellavor_dof_count(uint32_t mask);
+GiellavorCounted giellavor_dof_count(uint32_t mask);
 
 /* The start of each mask of a list, a byte a mask into `starts`; returned is the total. Refused: 1, 2, 5. */
-GiellavorCount giellavor_starts(const uint8_t *masks, size_t masks_len, uint8_t *starts, size_t starts_len);
+GiellavorCounted giellavor_starts(const uint8_t *masks, size_t masks_len, uint8_t *starts, size_t starts_len);
 
 /* How many velocity constraints a joint makes. Refused: 5. */
-GiellavorCount giellavor_num_velocity_constraints(uint32_t locked, uint32_t limit, uint32_t motor);
+GiellavorCounted giellavor_num_velocity_constraints(uint32_t locked, uint32_t limit, uint32_t motor);
 
 /* The default damping of a mask, as f32 bits, lowest byte first, four bytes a DoF into `damping`; returned is the DoF count. Refused: 1, 5. */
-GiellavorCount giellavor_default_damping(uint32_t mask, uint8_t *damping, size_t damping_len);
+GiellavorCounted giellavor_default_damping(uint32_t mask, uint8_t *damping, size_t damping_len);
 
 /* ---- Numbers */
 
@@ -319,10 +313,10 @@ GiellavorEdited giellavor_part_cut(GiellavorArm arm, uint32_t link, uint32_t num
 /* ---- Masks and bare lists */
 
 /* Is an axis of a mask free? The count is 1 or 0. Refused: 5. */
-GiellavorCount giellavor_free_axis(uint32_t mask, uint32_t axis);
+GiellavorCounted giellavor_free_axis(uint32_t mask, uint32_t axis);
 
 /* The DoFs of a mask below an axis. Refused: 5. */
-GiellavorCount giellavor_dof_count_below(uint32_t mask, uint32_t axis);
+GiellavorCounted giellavor_dof_count_below(uint32_t mask, uint32_t axis);
 
 /* The links from the root to a link of a list of parents, a byte each into `to`; returned is their count. Refused: 1, 2, 4. */
 GiellavorCounted giellavor_branch(const uint8_t *parents, size_t parents_len, uint32_t link, uint8_t *to, size_t to_len);
@@ -330,10 +324,10 @@ GiellavorCounted giellavor_branch(const uint8_t *parents, size_t parents_len, ui
 /* ---- Counts */
 
 /* The start of a link: how many DoFs stand before its own. Refused: 2 to 5, 7, 9. */
-GiellavorCount giellavor_link_start(GiellavorArm arm, uint32_t link);
+GiellavorCounted giellavor_link_start(GiellavorArm arm, uint32_t link);
 
 /* The DoF count of an arm. Refused: 2 to 5, 7, 9. */
-GiellavorCount giellavor_arm_dofs(GiellavorArm arm);
+GiellavorCounted giellavor_arm_dofs(GiellavorArm arm);
 
 /* ---- Joints */
 
@@ -395,8 +389,8 @@ static inline int giellavor_fits(void)
         sizeof(GiellavorRotation), sizeof(GiellavorPoint), sizeof(GiellavorPose), sizeof(GiellavorJoint), sizeof(GiellavorSpring),
         sizeof(GiellavorLink), sizeof(GiellavorCoupling), sizeof(GiellavorRow), sizeof(GiellavorArm), sizeof(GiellavorNewLink),
         sizeof(GiellavorNewCoupling), sizeof(GiellavorLimits), sizeof(GiellavorForce), sizeof(GiellavorEdited), sizeof(GiellavorRotated),
-        sizeof(GiellavorCount), sizeof(GiellavorCounted), sizeof(GiellavorRowPart), sizeof(GiellavorSpringAnswer),
-        sizeof(GiellavorAxesAnswer), sizeof(GiellavorConstraintRow), sizeof(GiellavorSums), 0};
+        sizeof(GiellavorCounted), sizeof(GiellavorRowPart), sizeof(GiellavorSpringAnswer), sizeof(GiellavorAxesAnswer),
+        sizeof(GiellavorConstraintRow), sizeof(GiellavorSums), 0};
     if (giellavor_version() != GIELLAVOR_VERSION) {
         return 0;
     }

@@ -251,33 +251,14 @@ pub struct Rotated {
     pub rotation: Rotation,
 }
 
-/// A count of DoFs or of constraints.
-#[repr(C)]
-#[derive(Clone, Copy, Debug, PartialEq, Eq)]
-pub struct Count {
-    /// A refusal's number, or 0.
-    pub refusal: u8,
-    /// The count.
-    pub count: u8,
-}
-
-/// How much lent memory holds.
+/// A count: of DoFs, of constraints, of parts, or of what was written into lent memory.
 #[repr(C)]
 #[derive(Clone, Copy, Debug, PartialEq, Eq)]
 pub struct Counted {
     /// A refusal's number, or 0.
     pub refusal: u8,
-    /// How much it holds.
+    /// The count.
     pub count: usize,
-}
-
-impl From<Count> for Counted {
-    fn from(answer: Count) -> Counted {
-        Counted {
-            refusal: answer.refusal,
-            count: answer.count.into(),
-        }
-    }
 }
 
 /// Where a link's own part of a lent row stands in it.

@@ -19,10 +19,10 @@ unsafe extern "C" {
 }
 
 /// The version of what crosses: that of `crates/sizes`.
-const VERSION: u32 = 1;
+const VERSION: u32 = 2;
 
 /// In the order of `abi`.
-const SIZES: [usize; 22] = [
+const SIZES: [usize; 21] = [
     size_of::<Rotation>(),
     size_of::<Point>(),
     size_of::<Pose>(),
@@ -38,7 +38,6 @@ const SIZES: [usize; 22] = [
     size_of::<Force>(),
     size_of::<Edited>(),
     size_of::<Rotated>(),
-    size_of::<Count>(),
     size_of::<Counted>(),
     size_of::<RowPart>(),
     size_of::<SpringAnswer>(),
@@ -140,13 +139,6 @@ impl Answer for Rotated {
     const WRONG: Rotated = Rotated {
         refusal: WRONG,
         rotation: ROTATION,
-    };
-}
-
-impl Answer for Count {
-    const WRONG: Count = Count {
-        refusal: WRONG,
-        count: 0,
     };
 }
 

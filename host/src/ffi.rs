@@ -99,16 +99,16 @@ exported! {
     fn split_cut(parents: &[u8], link: u32, map: &mut [u8]) -> Counted;
 
     /// The DoF count of a mask. Refused: 5.
-    fn dof_count(mask: u32) -> Count;
+    fn dof_count(mask: u32) -> Counted;
 
     /// The start of each mask of a list, a byte a mask into `starts`; returned is the total. Refused: 1, 2, 5.
-    fn starts(masks: &[u8], starts: &mut [u8]) -> Count;
+    fn starts(masks: &[u8], starts: &mut [u8]) -> Counted;
 
     /// How many velocity constraints a joint makes. Refused: 5.
-    fn num_velocity_constraints(locked: u32, limit: u32, motor: u32) -> Count;
+    fn num_velocity_constraints(locked: u32, limit: u32, motor: u32) -> Counted;
 
     /// The default damping of a mask, as f32 bits, lowest byte first, four bytes a DoF into `damping`; returned is the DoF count. Refused: 1, 5.
-    fn default_damping(mask: u32, damping: &mut [u8]) -> Count;
+    fn default_damping(mask: u32, damping: &mut [u8]) -> Counted;
 }
 
 // ---- Numbers
@@ -204,10 +204,10 @@ exported! {
 
 exported! {
     /// Is an axis of a mask free? The count is 1 or 0. Refused: 5.
-    fn free_axis(mask: u32, axis: u32) -> Count;
+    fn free_axis(mask: u32, axis: u32) -> Counted;
 
     /// The DoFs of a mask below an axis. Refused: 5.
-    fn dof_count_below(mask: u32, axis: u32) -> Count;
+    fn dof_count_below(mask: u32, axis: u32) -> Counted;
 
     /// The links from the root to a link of a list of parents, a byte each into `to`; returned is their count. Refused: 1, 2, 4.
     fn branch(parents: &[u8], link: u32, to: &mut [u8]) -> Counted;
@@ -217,10 +217,10 @@ exported! {
 
 exported! {
     /// The start of a link: how many DoFs stand before its own. Refused: 2 to 5, 7, 9.
-    fn link_start(arm: &Arm, link: u32) -> Count;
+    fn link_start(arm: &Arm, link: u32) -> Counted;
 
     /// The DoF count of an arm. Refused: 2 to 5, 7, 9.
-    fn arm_dofs(arm: &Arm) -> Count;
+    fn arm_dofs(arm: &Arm) -> Counted;
 }
 
 // ---- Joints

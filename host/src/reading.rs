@@ -6,7 +6,7 @@ use crate::bits;
 use crate::ffi;
 use crate::limits::{BLOCK, LINKS, TABLES};
 use crate::link::LinkView;
-use crate::refusal::{Refusal, refused};
+use crate::refusal::{Refusal, counted, refused};
 use crate::row::{Role, RowName};
 use crate::which::Which;
 
@@ -84,7 +84,7 @@ impl Arm {
     /// How many degrees of freedom there are: the free axes of all joints.
     #[must_use]
     pub fn dof_count(&self) -> usize {
-        ffi::arm_dofs(self.state()).count.into()
+        ffi::arm_dofs(self.state()).count
     }
 
     /// Where a link's degrees of freedom begin.
@@ -93,9 +93,7 @@ impl Arm {
     ///
     /// [`Refusal::NoSuchLink`].
     pub fn link_start(&self, link: impl Into<Which>) -> Result<usize, Refusal> {
-        let answer = ffi::link_start(self.state(), self.number(link));
-        refused(answer.refusal)?;
-        Ok(answer.count.into())
+        counted(ffi::link_start(self.state(), self.number(link)))
     }
 
     /// The couplings, in the order in which they were added. They name links by number.

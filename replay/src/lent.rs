@@ -40,8 +40,8 @@ fn held(holds: bool, words: &'static str) -> Answer {
 }
 
 /// The count of an answer that isn't refused.
-fn counted(answer: impl Into<Counted>) -> Answer<usize> {
-    let Counted { refusal, count } = answer.into();
+fn counted(answer: Counted) -> Answer<usize> {
+    let Counted { refusal, count } = answer;
     held(refusal == 0 || count == 0, "refused, and counted")?;
     refused(refusal).map(|()| count)
 }
@@ -435,7 +435,7 @@ impl Engine for Lent {
             false => ffi::arm_dofs(self.arm()),
         };
         match answer.refusal {
-            0 => answer.count.into(),
+            0 => answer.count,
             _ => (0..link.min(LINKS)).map(by_masks).sum(),
         }
     }

@@ -178,7 +178,7 @@ fn every_number_that_is_read_is_the_call_s() {
         let start = ffi::link_start(state, link);
         assert_eq!(
             arm.link_start(link),
-            told(start.refusal).map_or(Ok(start.count.into()), Err)
+            told(start.refusal).map_or(Ok(start.count), Err)
         );
         for axis in 0..4 {
             let spring = ffi::spring(state, link, axis);
@@ -201,7 +201,7 @@ fn every_number_that_is_read_is_the_call_s() {
             told(counted.refusal).map_or(Ok(numbers), Err)
         );
     }
-    assert_eq!(arm.dof_count(), ffi::arm_dofs(state).count.into());
+    assert_eq!(arm.dof_count(), ffi::arm_dofs(state).count);
     for (name, row) in RowName::ALL.into_iter().zip(&state.rows) {
         assert_eq!(arm.row(name), &row.entries[..12]);
     }

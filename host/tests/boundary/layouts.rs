@@ -86,7 +86,6 @@ unsafe extern "C" {
     safe fn giellavor_layout_force(x: f32, y: f32, torque: f32) -> Force;
     safe fn giellavor_layout_edited(refusal: u8, arm: Arm) -> Edited;
     safe fn giellavor_layout_rotated(refusal: u8, rotation: Rotation) -> Rotated;
-    safe fn giellavor_layout_count(refusal: u8, count: u8) -> Count;
     safe fn giellavor_layout_counted(refusal: u8, count: usize) -> Counted;
     safe fn giellavor_layout_row_part(refusal: u8, offset: usize, length: usize) -> RowPart;
     safe fn giellavor_layout_spring_answer(refusal: u8, spring: Spring) -> SpringAnswer;
@@ -254,13 +253,6 @@ fn an_answer_made_of_its_fields_has_them_in_their_places() {
         }
     );
     assert_eq!(
-        giellavor_layout_count(200, 201),
-        Count {
-            refusal: 200,
-            count: 201
-        }
-    );
-    assert_eq!(
         giellavor_layout_counted(200, usize::MAX - 1),
         Counted {
             refusal: 200,
@@ -374,7 +366,6 @@ fn layouts() -> Vec<Layout> {
         Force { x, y, torque }
         Edited { arm, refusal }
         Rotated { refusal, rotation }
-        Count { refusal, count }
         Counted { refusal, count }
         RowPart { refusal, offset, length }
         SpringAnswer { refusal, spring }
