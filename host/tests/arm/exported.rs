@@ -176,10 +176,7 @@ fn every_number_that_is_read_is_the_call_s() {
     for link in 0..5 {
         let told = |refusal: u8| Refusal::from_number(refusal);
         let start = ffi::link_start(state, link);
-        assert_eq!(
-            arm.link_start(link),
-            told(start.refusal).map_or(Ok(start.count), Err)
-        );
+        assert_eq!(arm.link_start(link), told(start.refusal).map_or(Ok(start.count), Err));
         for axis in 0..4 {
             let spring = ffi::spring(state, link, axis);
             assert_eq!(
