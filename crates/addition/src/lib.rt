@@ -26,6 +26,7 @@ use arm::row_number;
 use arm::start_among;
 use arm::unplaced_link;
 use floats::copy_part;
+use full_working::tables_fit;
 use kinematics::refresh_one;
 use limits::LINKS;
 use limits::fewer;
@@ -33,6 +34,7 @@ use masks::default_damping;
 use masks::dofs;
 use masks::is_mask;
 use multibody_joint::new_joint;
+use one_link::is_finite_above;
 use planar::Point;
 use planar::Pose;
 use planar::is_finite_point;
@@ -41,9 +43,7 @@ use planar::is_turn;
 use planar::rotation_of;
 use refusal::lowest;
 use refusal::unless;
-use one_link::is_finite_above;
 use topology::parent_fits;
-use full_working::tables_fit;
 
 // What the caller gives of a link. Numbers are any, so that none is cut.
 #[repr(C)]

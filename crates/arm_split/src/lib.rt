@@ -11,6 +11,8 @@ use arm::arm_refusal;
 use arm::empty_arm;
 use arm::live_links;
 use arm::parents_of;
+use full_working::tables_fit;
+use full_working::work_all;
 use part_arm::MAP;
 use part_arm::part_arm;
 use refusal::Counted;
@@ -18,8 +20,6 @@ use refusal::lowest;
 use refusal::unless;
 use topology::Split;
 use topology::split_map;
-use full_working::tables_fit;
-use full_working::work_all;
 
 // The split map of the arm's parents, as of a bare list.
 fn map_of(arm: Arm, s: Split, map: &mut [u8]) -> Counted

@@ -23,6 +23,7 @@ use arm::with_inputs;
 use arm::with_joint;
 use arm::with_links;
 use floats::finite;
+use full_working::tables_fit;
 use kinematics::refresh_marked;
 use kinematics::refresh_one;
 use limits::LINKS;
@@ -31,6 +32,7 @@ use masks::is_axis;
 use masks::is_free;
 use multibody_joint::Joint;
 use multibody_joint::with_frames;
+use one_link::is_finite_above;
 use planar::Point;
 use planar::Pose;
 use planar::is_beyond;
@@ -41,9 +43,7 @@ use planar::rotation_at;
 use planar::rotation_of;
 use refusal::lowest;
 use refusal::unless;
-use one_link::is_finite_above;
 use topology::at_or_below;
-use full_working::tables_fit;
 
 // What a move sets.
 pub enum Change {

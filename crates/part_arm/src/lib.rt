@@ -195,5 +195,12 @@ pub fn part_arm(arm: Arm, places: [u8; MAP], k: usize) -> Arm
     let c = couplings_out(arm, places, k);
     let links = l.links;
     let couplings = c.couplings;
-    arm_with(arm, l.count, c.count, links, couplings, rows_out(arm, places, k))
+    arm_with(
+        arm,
+        l.count,
+        c.count,
+        links,
+        couplings,
+        rows_out(arm, places, k),
+    )
 }

@@ -11,6 +11,8 @@ use arm::arm_refusal;
 use arm::arm_with;
 use arm::with_joint;
 use floats::copy_part;
+use full_working::tables_fit;
+use full_working::work_all;
 use limits::DOFS;
 use multibody_joint::Joint;
 use multibody_joint::fixed;
@@ -23,8 +25,6 @@ use planar::is_turn;
 use planar::rotation_of;
 use refusal::lowest;
 use refusal::unless;
-use full_working::tables_fit;
-use full_working::work_all;
 
 // What a root is changed to: free or fixed, at a pose.
 pub enum Root {

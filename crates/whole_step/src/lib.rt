@@ -16,6 +16,8 @@ use arm::row_number;
 use arm::with_joint;
 use arm::with_links;
 use floats::finite;
+use full_working::tables_fit;
+use full_working::work_all;
 use limits::LINKS;
 use masks::dofs;
 use multibody_joint::Joint;
@@ -23,8 +25,6 @@ use multibody_joint::integrate;
 use planar::is_beyond;
 use refusal::lowest;
 use refusal::unless;
-use full_working::tables_fit;
-use full_working::work_all;
 
 // ---- Every joint integrated
 

@@ -47,9 +47,11 @@ loop-less c = search needs
 loop-again : tie.Need-loop-again Inv-loop μ-loop
 loop-again c =
     let start = c .before .before .before in
-    let turn = c .before .before .loop in
-    (omega arith, length-set (turn .s) (start .args .to + turn .i) _ ∙ turn .inv .1,
-    moved-more (start .args .from) (start .args .to) (start .args .n) (start .args .s .now) (start .pre .0) (start .pre .1) (turn .i) (omega arith) (turn .s) (turn .inv .2) nan)
+    let turn = c .before .before .loop in (
+      omega arith,
+      length-set (turn .s) (start .args .to + turn .i) _ ∙ turn .inv .1,
+      moved-more (start .args .from) (start .args .to) (start .args .n) (start .args .s .now) (start .pre .0) (start .pre .1) (turn .i) (omega arith) (turn .s) (turn .inv .2) nan,
+    )
 
 same-length : tie.Need-same-length Inv-loop μ-loop
 same-length c = search needs
