@@ -255,7 +255,7 @@ module _ (a : Arm) (sized : length (a .links) ≡ linkLimit) (three : length (li
   view-stays g e zero h = ap g root-at ∙ e
   view-stays g e (suc j) h = ap g (modify-other change 0 (suc j) (a .links) noLink (λ e. omega arith))
 
-  -- what the new root accepted, every link does
+  -- what the new root passes, every link passes
   test-stays : (test : Link → Bool) → every test (linksOf a) ≡ true → (test (linkAt (a .links) 0) ≡ true → test (change (linkAt (a .links) 0)) ≡ true) → (j : ℕ)
       → j < liveLinks a → test (linkAt ls j) ≡ true
   test-stays test e f zero h = ap test root-at ∙ f (link-passes a sized test e 0 h)
