@@ -33,7 +33,7 @@ use planar::is_beyond;
 use planar::is_finite_point;
 use planar::is_finite_pose;
 use planar::is_finite_rotation;
-use refusal::lower;
+use refusal::lowest;
 use refusal::unless;
 use topology::parents_fit;
 
@@ -546,27 +546,19 @@ pub fn handed_in(arm: Arm) -> HandedIn
     let masks = links.locked;
     let rows = arm.rows;
     let fine = rows_finite(rows, start_among(masks, n, LINKS));
-    let refusal = lower(
+    let refusals = [
         unless(
             (arm.link_count <= LINKS) & (arm.coupling_count <= COUPLINGS),
             2,
         ),
-        lower(
-            unless(tags_unique(tags, n), 3),
-            lower(
-                unless(parents_earlier(parents, n) & couplings.links, 4),
-                lower(
-                    unless(links.masks & root_fits(masks, n) & couplings.axes, 5),
-                    lower(
-                        unless(links.floats & couplings.floats & fine, 7),
-                        unless(links.angles, 9),
-                    ),
-                ),
-            ),
-        ),
-    );
+        unless(tags_unique(tags, n), 3),
+        unless(parents_earlier(parents, n) & couplings.links, 4),
+        unless(links.masks & root_fits(masks, n) & couplings.axes, 5),
+        unless(links.floats & couplings.floats & fine, 7),
+        unless(links.angles, 9),
+    ];
     HandedIn {
-        refusal,
+        refusal: lowest(&refusals),
         tags,
         parents,
         masks,

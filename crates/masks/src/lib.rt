@@ -12,7 +12,7 @@ ghost use Rattle.masks.specs.Answers.{freeAnswer, dofsAnswer, belowAnswe
 use limits::LINKS;
 use refusal::Counted;
 use refusal::answer_count;
-use refusal::lower;
+use refusal::lowest;
 use refusal::unless;
 
 // The default damping of a free angle.
@@ -155,10 +155,12 @@ fn starts_refusal(masks: &[u8], room: usize) -> u8
     ensures { λ r. ⌜ r ≡ startsRefusal (now (masks .entry)) room ⌝ }
 {
     let n = masks.len();
-    lower(
+    let refusals = [
         unless(n <= room, 1),
-        lower(unless(n <= LINKS, 2), unless(all_masks(masks), 5)),
-    )
+        unless(n <= LINKS, 2),
+        unless(all_masks(masks), 5),
+    ];
+    lowest(&refusals)
 }
 
 // The start of each mask of a bare list, a byte each, and the total. Any mask may come first: a bare list has no root.
@@ -190,10 +192,11 @@ fn fill_damping(mask: u32, lent: &mut [f32]) -> usize
 fn damping_refusal(mask: u32, room: usize) -> u8
     ensures { λ r. ⌜ r ≡ dampingRefusal mask room ⌝ }
 {
-    lower(
+    let refusals = [
         unless(free_below(mask, 3) <= room, 1),
         unless(is_mask(mask), 5),
-    )
+    ];
+    lowest(&refusals)
 }
 
 // The default damping row of a mask: one entry for each DoF, rising.

@@ -14,7 +14,7 @@ ghost use Rattle.topology.specs.Answers.{refusalOf, branchAnswer, splitA
 use limits::LINKS;
 use limits::fewer;
 use refusal::Counted;
-use refusal::lower;
+use refusal::lowest;
 use refusal::unless;
 
 // How an arm is split: a link is deleted, or its joint only is cut.
@@ -47,16 +47,13 @@ pub fn parents_fit(parents: &[u8]) -> bool
 fn refusal_of(parents: &[u8], link: usize, enough: bool) -> u8
     ensures { λ r. ⌜ r ≡ refusalOf (now (parents .entry)) link enough ⌝ }
 {
-    lower(
+    let refusals = [
         unless(enough, 1),
-        lower(
-            unless(parents.len() <= LINKS, 2),
-            lower(
-                unless(link < parents.len(), 4),
-                unless(parents_fit(parents), 4),
-            ),
-        ),
-    )
+        unless(parents.len() <= LINKS, 2),
+        unless(link < parents.len(), 4),
+        unless(parents_fit(parents), 4),
+    ];
+    lowest(&refusals)
 }
 
 // How many links the branch of a link has.

@@ -1,7 +1,7 @@
 -- `handed_in`: the same six entries, lowest first. Assumes nothing.
 use Prim.Native.Nat.{ℕ, min}
 use mathlib.Core.Bool.{Bool, _&&_}
-use mathlib.Core.List.{List}
+use mathlib.Core.List.{List, [], _∷_}
 use mathlib.Core.Path.{_≡_, refl, sym, _∙_, ap}
 use native.Mathlib.Omega.{arith}
 use lib.ListN.{length, take}
@@ -10,7 +10,7 @@ use Rattle.arm.proofs.Padded.{padded-front}
 use Rattle.lists.proofs.Every.{every-map}
 use Rattle.lists.specs.Tests.{every}
 use Rattle.limits.specs.Limits.{linkLimit}
-use Rattle.refusal.specs.Refusal.{unlessOf, lowerOf}
+use Rattle.refusal.specs.Refusal.{unlessOf, lowest}
 use Rattle.floats.specs.Floats.{allFinite}
 use Rattle.masks.specs.Starts.{startOf}
 use Rattle.masks.proofs.Totals.{start-all}
@@ -72,12 +72,12 @@ rows-tested a d e =
 
 module _ (a : Arm) (l : LinkTests) (c : CouplingTests) (unique earlier root rows : Bool) (el : l ≡ linkTestsOf a) (ec : c ≡ couplingTestsOf a)
     (e₃ : unique ≡ tagsUnique a) (e₄ : earlier ≡ parentsEarlier a) (e₅ : root ≡ rootFits a) (e₇ : rows ≡ rowsFinite a) where
-  same : {u₂ u₃ u₄ u₅ u₇ u₉ l₇ l₅ l₄ l₃ l₂ : ℕ} → u₂ ≡ unlessOf (countsFit a) 2 → u₃ ≡ unlessOf unique 3
+  same : {u₂ u₃ u₄ u₅ u₇ u₉ r : ℕ} → u₂ ≡ unlessOf (countsFit a) 2 → u₃ ≡ unlessOf unique 3
       → u₄ ≡ unlessOf (earlier && c .links) 4 → u₅ ≡ unlessOf ((l .masks && root) && c .axes) 5
       → u₇ ≡ unlessOf ((l .floats && c .floats) && rows) 7 → u₉ ≡ unlessOf (l .angles) 9
-      → l₇ ≡ lowerOf u₇ u₉ → l₅ ≡ lowerOf u₅ l₇ → l₄ ≡ lowerOf u₄ l₅ → l₃ ≡ lowerOf u₃ l₄ → l₂ ≡ lowerOf u₂ l₃ → l₂ ≡ armRefusal a
+      → r ≡ lowest (u₂ ∷ u₃ ∷ u₄ ∷ u₅ ∷ u₇ ∷ u₉ ∷ []) → r ≡ armRefusal a
   unfolding armRefusal armEntries linkTestsOf couplingTestsOf
-  same p₂ p₃ p₄ p₅ p₇ p₉ q₇ q₅ q₄ q₃ q₂ = rw (q₂, q₃, q₄, q₅, q₇, p₂, p₃, p₄, p₅, p₇, p₉, el, ec, e₃, e₄, e₅, e₇)
+  same p₂ p₃ p₄ p₅ p₇ p₉ q = rw (q, p₂, p₃, p₄, p₅, p₇, p₉, el, ec, e₃, e₄, e₅, e₇)
 
   found : (k : ℕ) → k ≡ armRefusal a → _≡_ {A = HandedIn} (record { refusal = k; tags = l .tags; parents = l .parents; masks = l .locked }) (handedIn a)
   unfolding handedIn linkTestsOf
@@ -97,8 +97,12 @@ start-among-requires c κs = search needs
 
 rows-finite-requires : tie.Need-rows-finite-requires
 rows-finite-requires c κs =
-    let a = c .before .before .before .before .before .before .before .before .args .arm in
-    let e = c .start-among .ensures ∙ dofs-counted a (links-length a (c .before .before .before .before .before .before .before .before .good .0)) (c .before .before .before .before .before .before .link-tests .result) _ (c .before .before .before .before .before .before .link-tests .ensures) (c .before .before .before .before .before .before .before .live-links .ensures) in
+    let start : tie.Start = search in
+    let at-live-links : tie.After-live-links = search in
+    let at-link-tests : tie.After-link-tests = search in
+    let a = start .args .arm in
+    let w = links-length a (start .good .0) in
+    let e = c .start-among .ensures ∙ dofs-counted a w (at-link-tests .link-tests .result) _ (at-link-tests .link-tests .ensures) (at-live-links .live-links .ensures) in
     omega (arith, dof-count-le a, e)
 
 unless-requires : tie.Need-unless-requires
@@ -128,35 +132,60 @@ unless-requires-5 c κs = search needs
 unless-requires-6 : tie.Need-unless-requires-6
 unless-requires-6 c κs = search needs
 
-lower-requires : tie.Need-lower-requires
-lower-requires c κs = search needs
+slice-aggregate-lowest : tie.Need-slice-aggregate-lowest
+slice-aggregate-lowest c = search needs
 
-lower-requires-2 : tie.Need-lower-requires-2
-lower-requires-2 c κs = search needs
+lowest-requires : tie.Need-lowest-requires
+lowest-requires c κs = search needs
 
-lower-requires-3 : tie.Need-lower-requires-3
-lower-requires-3 c κs = search needs
+-- ---- seen from where the rows are tested
+abbrev dofs-counted-at : tie.After-rows-finite → tie.After-start-among
+dofs-counted-at p = search
 
-lower-requires-4 : tie.Need-lower-requires-4
-lower-requires-4 c κs = search needs
+abbrev couplings-tested-at : tie.After-rows-finite → tie.After-coupling-tests
+couplings-tested-at p = search
 
-lower-requires-5 : tie.Need-lower-requires-5
-lower-requires-5 c κs = search needs
+abbrev links-tested-at : tie.After-rows-finite → tie.After-link-tests
+links-tested-at p = search
+
+abbrev links-counted-at : tie.After-rows-finite → tie.After-live-links
+links-counted-at p = search
+
+abbrev start-of : tie.After-rows-finite → tie.Start
+start-of p = search
 
 returns : tie.Need-returns
 returns c =
-    let a = c .before .before .before .before .before .before .before .before .before .before .before .before .before .before .before .before .before .before .before .before .before .before .before .before .before .before .before .before .before .before .args .arm in
-    let w = links-length a (c .before .before .before .before .before .before .before .before .before .before .before .before .before .before .before .before .before .before .before .before .before .before .before .before .before .before .before .before .before .before .good .0) in
-    let l = c .before .before .before .before .before .before .before .before .before .before .before .before .before .before .before .before .before .before .before .before .before .before .before .before .before .before .before .before .link-tests .result in
-    let el = c .before .before .before .before .before .before .before .before .before .before .before .before .before .before .before .before .before .before .before .before .before .before .before .before .before .before .before .before .link-tests .ensures in
-    let en = c .before .before .before .before .before .before .before .before .before .before .before .before .before .before .before .before .before .before .before .before .before .before .before .before .before .before .before .before .before .live-links .ensures in
-    let ec = c .before .before .before .before .before .before .before .before .before .before .before .before .before .before .before .before .before .before .before .before .before .before .before .before .before .before .before .coupling-tests .ensures in
-    let e₃ = c .before .before .before .before .before .before .before .before .before .before .before .before .before .before .before .before .before .tags-unique .ensures ∙ tags-tested a w l _ el en in
-    let e₄ = c .before .before .before .before .before .before .before .before .before .before .before .before .before .before .before .parents-earlier .ensures ∙ parents-tested a w l _ el en in
-    let e₅ = c .before .before .before .before .before .before .before .before .before .before .before .before .root-fits .ensures ∙ root-tested a w l _ el en in
-    let e₇ = c .before .before .before .before .before .before .before .before .before .before .before .before .before .before .before .before .before .before .before .before .before .rows-finite .ensures ∙ rows-tested a _ (c .before .before .before .before .before .before .before .before .before .before .before .before .before .before .before .before .before .before .before .before .before .before .start-among .ensures ∙ dofs-counted a w l _ el en) in
-    found a l (c .before .before .before .before .before .before .before .before .before .before .before .before .before .before .before .before .before .before .before .before .before .before .before .before .before .before .before .coupling-tests .result) _ _ _ _ el ec e₃ e₄ e₅ e₇ _
-    (same a l (c .before .before .before .before .before .before .before .before .before .before .before .before .before .before .before .before .before .before .before .before .before .before .before .before .before .before .before .coupling-tests .result) _ _ _ _ el ec e₃ e₄ e₅ e₇ (c .before .before .before .before .before .before .before .before .before .before .before .before .before .before .before .before .before .before .unless .ensures) (c .before .before .before .before .before .before .before .before .before .before .before .before .before .before .before .before .unless2 .ensures) (c .before .before .before .before .before .before .before .before .before .before .before .before .before .unless3 .ensures) (c .before .before .before .before .before .before .before .before .before .unless4 .ensures) (c .before .before .before .before .before .before .unless5 .ensures) (c .before .before .before .before .before .unless6 .ensures) (c .before .before .before .before .lower .ensures) (c .before .before .before .lower2 .ensures) (c .before .before .lower3 .ensures) (c .before .lower4 .ensures) (c .lower5 .ensures))
+    let at-lowest : tie.After-lowest = search in
+    let at-unless6 : tie.After-unless6 = search in
+    let at-unless5 : tie.After-unless5 = search in
+    let at-unless4 : tie.After-unless4 = search in
+    let at-root-fits : tie.After-root-fits = search in
+    let at-unless3 : tie.After-unless3 = search in
+    let at-parents-earlier : tie.After-parents-earlier = search in
+    let at-unless2 : tie.After-unless2 = search in
+    let at-tags-unique : tie.After-tags-unique = search in
+    let at-unless : tie.After-unless = search in
+    let at-rows-finite : tie.After-rows-finite = search in
+    let at-start-among = dofs-counted-at at-rows-finite in
+    let at-coupling-tests = couplings-tested-at at-rows-finite in
+    let at-link-tests = links-tested-at at-rows-finite in
+    let at-live-links = links-counted-at at-rows-finite in
+    let start = start-of at-rows-finite in
+    let a = start .args .arm in
+    let w = links-length a (start .good .0) in
+    let l = at-link-tests .link-tests .result in
+    let el = at-link-tests .link-tests .ensures in
+    let en = at-live-links .live-links .ensures in
+    let k = at-coupling-tests .coupling-tests .result in
+    let ec = at-coupling-tests .coupling-tests .ensures in
+    let e₃ = at-tags-unique .tags-unique .ensures ∙ tags-tested a w l _ el en in
+    let e₄ = at-parents-earlier .parents-earlier .ensures ∙ parents-tested a w l _ el en in
+    let e₅ = at-root-fits .root-fits .ensures ∙ root-tested a w l _ el en in
+    let e₇ = at-rows-finite .rows-finite .ensures ∙ rows-tested a _ (at-start-among .start-among .ensures ∙ dofs-counted a w l _ el en) in
+    found a l k _ _ _ _ el ec e₃ e₄ e₅ e₇ _
+    (same a l k _ _ _ _ el ec e₃ e₄ e₅ e₇ (at-unless .unless .ensures) (at-unless2 .unless2 .ensures) (at-unless3 .unless3 .ensures) (at-unless4 .unless4 .ensures)
+    (at-unless5 .unless5 .ensures) (at-unless6 .unless6 .ensures) (at-lowest .lowest .ensures))
 
 pub handed-in-spec : {M : Type 1} → statement M
 handed-in-spec =
@@ -176,9 +205,6 @@ handed-in-spec =
     unless-requires-4
     unless-requires-5
     unless-requires-6
-    lower-requires
-    lower-requires-2
-    lower-requires-3
-    lower-requires-4
-    lower-requires-5
+    slice-aggregate-lowest
+    lowest-requires
     returns)

@@ -17,8 +17,11 @@ is-mask-requires c κs = search needs
 unless-requires-2 : tie.Need-unless-requires-2
 unless-requires-2 c κs = search needs
 
-lower-requires : tie.Need-lower-requires
-lower-requires c κs = search needs
+slice-aggregate-lowest : tie.Need-slice-aggregate-lowest
+slice-aggregate-lowest c = search needs
+
+lowest-requires : tie.Need-lowest-requires
+lowest-requires c κs = search needs
 
 returns : tie.Need-returns
 unfolding dampingRefusal dofsOf
@@ -32,5 +35,6 @@ damping-refusal-spec =
     unless-requires
     is-mask-requires
     unless-requires-2
-    lower-requires
+    slice-aggregate-lowest
+    lowest-requires
     returns)

@@ -16,11 +16,11 @@ all-masks-requires c κs = search needs
 unless-requires-3 : tie.Need-unless-requires-3
 unless-requires-3 c κs = search needs
 
-lower-requires : tie.Need-lower-requires
-lower-requires c κs = search needs
+slice-aggregate-lowest : tie.Need-slice-aggregate-lowest
+slice-aggregate-lowest c = search needs
 
-lower-requires-2 : tie.Need-lower-requires-2
-lower-requires-2 c κs = search needs
+lowest-requires : tie.Need-lowest-requires
+lowest-requires c κs = search needs
 
 returns : tie.Need-returns
 unfolding startsRefusal
@@ -34,6 +34,6 @@ starts-refusal-spec =
     unless-requires-2
     all-masks-requires
     unless-requires-3
-    lower-requires
-    lower-requires-2
+    slice-aggregate-lowest
+    lowest-requires
     returns)

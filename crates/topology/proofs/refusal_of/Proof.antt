@@ -19,14 +19,11 @@ parents-fit-requires c κs = search needs
 unless-requires-4 : tie.Need-unless-requires-4
 unless-requires-4 c κs = search needs
 
-lower-requires : tie.Need-lower-requires
-lower-requires c κs = search needs
+slice-aggregate-lowest : tie.Need-slice-aggregate-lowest
+slice-aggregate-lowest c = search needs
 
-lower-requires-2 : tie.Need-lower-requires-2
-lower-requires-2 c κs = search needs
-
-lower-requires-3 : tie.Need-lower-requires-3
-lower-requires-3 c κs = search needs
+lowest-requires : tie.Need-lowest-requires
+lowest-requires c κs = search needs
 
 returns : tie.Need-returns
 unfolding refusalOf
@@ -41,7 +38,6 @@ refusal-of-spec =
     unless-requires-3
     parents-fit-requires
     unless-requires-4
-    lower-requires
-    lower-requires-2
-    lower-requires-3
+    slice-aggregate-lowest
+    lowest-requires
     returns)
