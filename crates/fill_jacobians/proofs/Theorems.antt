@@ -15,7 +15,7 @@ use Rattle.arm.proofs.Agree.{same-dofs, same-arm-refusal}
 use Rattle.unit_multibody_joint.specs.Outcome.{out, orThen, answered, solvedAnswer}
 use Rattle.unit_multibody_joint.proofs.Theorems.{same-row}
 use Rattle.fill_jacobians.specs.declared.Force.{Force}
-use Rattle.fill_jacobians.specs.Sums.{forceRow, sumsOf, refusedSums, finiteSums, sumsAnswer}
+use Rattle.fill_jacobians.specs.Sums.{forceRow, sumsOf, refusedSums, sumsAnswer}
 use Rattle.floats.specs.Floats.{dot}
 use Rattle.fill_jacobians.specs.Fill.{fillEntries, fillRefusal, fillAnswer}
 
@@ -29,5 +29,5 @@ fill-same a b g link f tables mass j wj = rw (same-row a b g Velocities, same-ar
 
 -- with n = 0 nothing is written, and both sums are +0
 pub fill-nothing : (f : Force) (block velocities mass j wj : List Float) → sumsAnswer (forceRow f block 0) velocities 0 0 mass j wj ≡ out (refusedSums 0) j wj
-unfolding sumsAnswer solvedAnswer orThen answered forceRow dot sumsOf refusedSums finiteSums ofBits solution substituted columns permuted forward backward
+unfolding sumsAnswer solvedAnswer orThen answered forceRow dot sumsOf ofBits solution substituted columns permuted forward backward
 fill-nothing f block velocities mass j wj = refl

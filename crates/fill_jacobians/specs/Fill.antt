@@ -7,7 +7,7 @@ use lib.ListN.{length}
 use lib.Ieee.{Float}
 use Rattle.limits.specs.Limits.{tableSize}
 use Rattle.refusal.specs.Refusal.{unlessOf, lowest}
-use Rattle.floats.specs.Floats.{isFinite, allFinite}
+use Rattle.floats.specs.Floats.{allFinite}
 use Rattle.arm.specs.declared.Arm.{Arm}
 use Rattle.arm.specs.declared.RowName.the-variants.{Velocities}
 use Rattle.arm.specs.Arm.{isLink, dofCountOf}
@@ -19,8 +19,8 @@ use Rattle.fill_jacobians.specs.declared.Force.{Force}
 use Rattle.fill_jacobians.specs.declared.Sums.{Sums}
 use Rattle.fill_jacobians.specs.Sums.{forceRow, sumsAnswer}
 
-unfoldable pub forceFinite : Force → Bool
-forceFinite f = isFinite (f .x) && isFinite (f .y) && isFinite (f .torque)
+abbrev pub forceFinite : Force → Bool
+forceFinite f = allFinite (f .x ∷ f .y ∷ f .torque ∷ [])
 
 -- of the tables the asked link's whole block is read; j and wj are the memories' lengths
 abbrev pub fillEntries : Arm → ℕ → Force → List Float → List Float → ℕ → ℕ → List ℕ

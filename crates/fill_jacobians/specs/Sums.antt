@@ -5,7 +5,7 @@ use mathlib.Core.List.{List, [], _∷_, _++_}
 use lib.ListN.{getD}
 use lib.Ieee.{Float, nan}
 use Rattle.limits.specs.Limits.{dofLimit}
-use Rattle.floats.specs.Floats.{zero32, plus, times, isFinite, allFinite, dot}
+use Rattle.floats.specs.Floats.{zero32, plus, times, allFinite, dot}
 use Rattle.unit_multibody_joint.specs.Outcome.{Outcome, solvedAnswer}
 use Rattle.fill_jacobians.specs.declared.Force.{Force}
 use Rattle.fill_jacobians.specs.declared.Sums.{Sums}
@@ -29,11 +29,11 @@ unfoldable pub sumsOf : List Float → List Float → List Float → Sums
 sumsOf row solved velocities = record { refusal = 0; «j_wj» = dot row solved; «j_velocities» = dot row velocities }
 
 -- refused: the number, and zeros
-unfoldable pub refusedSums : ℕ → Sums
+abbrev pub refusedSums : ℕ → Sums
 refusedSums k = record { refusal = k; «j_wj» = zero32; «j_velocities» = zero32 }
 
-unfoldable pub finiteSums : Sums → Bool
-finiteSums s = isFinite (s .«j_wj») && isFinite (s .«j_velocities»)
+abbrev pub finiteSums : Sums → Bool
+finiteSums s = allFinite (s .«j_wj» ∷ s .«j_velocities» ∷ [])
 
 -- wj solves M·wj = j; 12 also if j isn't finite
 unfoldable pub sumsAnswer : List Float → List Float → ℕ → ℕ → List Float → List Float → List Float → Outcome Sums

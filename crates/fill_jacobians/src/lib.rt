@@ -18,7 +18,6 @@ use floats::all_finite;
 use floats::copy;
 use floats::copy_part;
 use floats::dot_product;
-use floats::finite;
 use floats::is_finite_part;
 use limits::BLOCK;
 use limits::DOFS;
@@ -76,7 +75,8 @@ fn sums_of(row: &[f32], solved: &[f32], velocities: Row) -> Sums
 fn are_finite_sums(s: Sums) -> bool
     ensures { λ r. ⌜ r ≡ finiteSums s ⌝ }
 {
-    finite(s.j_wj) & finite(s.j_velocities)
+    let values = [s.j_wj, s.j_velocities];
+    all_finite(&values)
 }
 
 fn refused_sums(refusal: u8) -> Sums
@@ -133,7 +133,8 @@ fn fill(
 fn is_finite_force(force: Force) -> bool
     ensures { λ r. ⌜ r ≡ forceFinite force ⌝ }
 {
-    finite(force.x) & finite(force.y) & finite(force.torque)
+    let values = [force.x, force.y, force.torque];
+    all_finite(&values)
 }
 
 fn fill_refusal(

@@ -22,8 +22,8 @@ use Rattle.arm.specs.Edits.{dofAt}
 use Rattle.arm.specs.HandedIn.{unique, tagsUnique, parentsEarlier, couplingLinksFit, jointMasksFit, rootFits, couplingAxesFit}
 use Rattle.arm.specs.HandedIn.{jointFinite, linkFinite, couplingFinite, rowsFinite, angleFits, armEntries, armRefusal}
 use Rattle.unit_multibody_joint.specs.Outcome.{orThen, answered, solvedAnswer}
-use Rattle.unit_multibody_joint.specs.Rows.{positive, lowerBound, upperBound, limitBounds, inverse, rowOf, refusedRow, finiteRow, rowAnswer, unitRow, lhsAt}
-use Rattle.unit_multibody_joint.specs.Refusals.{rowRefusal, limitsFinite}
+use Rattle.unit_multibody_joint.specs.Rows.{positive, lowerBound, upperBound, limitBounds, inverse, rowOf, rowAnswer, unitRow, lhsAt}
+use Rattle.unit_multibody_joint.specs.Refusals.{rowRefusal}
 use Rattle.unit_multibody_joint.specs.Answers.{axisAnswer, limitAnswer}
 use Rattle.marked_examples.specs.Marked.{answer, marked, Hold}
 
@@ -35,6 +35,6 @@ unfolding answer ofBits toBits add sub mul div lt eq allBelow countBelow lastTha
     greatest reducedRow reduced columns permuted forward backward substituted solution newJoint fixedJoint unplaced emptyArm linksOf
     couplingsOf tagsOf parentsOf masksOf maskAt startAt dofCountOf rowsOf dofAt unique tagsUnique parentsEarlier couplingLinksFit
     jointMasksFit rootFits couplingAxesFit jointFinite linkFinite couplingFinite rowsFinite angleFits armEntries armRefusal orThen answered
-    solvedAnswer positive lowerBound upperBound limitBounds inverse rowOf refusedRow finiteRow rowAnswer unitRow lhsAt rowRefusal
-    limitsFinite axisAnswer limitAnswer
+    solvedAnswer positive lowerBound upperBound limitBounds inverse rowOf rowAnswer unitRow lhsAt rowRefusal
+    axisAnswer limitAnswer
 all-hold = refl

@@ -6,7 +6,7 @@ use lib.Dec.{leb}
 use lib.ListN.{length, take, getD}
 use lib.Ieee.{Float, lt}
 use Rattle.refusal.specs.Refusal.{unlessOf, lowest}
-use Rattle.floats.specs.Floats.{zero32, times, isFinite, allFinite, entryOf}
+use Rattle.floats.specs.Floats.{zero32, times, allFinite, entryOf}
 use Rattle.masks.specs.Masks.{isAxis, isFree}
 use Rattle.arm.specs.declared.Arm.{Arm}
 use Rattle.arm.specs.declared.RowName.{RowName}
@@ -42,9 +42,8 @@ rowRefusal a link axis fine ordered mass j wj = lowest (rowEntries a link axis f
 
 -- ---- the limit row; 10: min above max
 
-unfoldable pub limitsFinite : Limits → Bool
-limitsFinite g =
-    isFinite (g .position) && isFinite (g .min) && isFinite (g .max) && isFinite (g .dt) && isFinite (g .«erp_inv_dt») && isFinite (g .«cfm_coeff»)
+abbrev pub limitsFinite : Limits → Bool
+limitsFinite g = allFinite (g .position ∷ g .min ∷ g .max ∷ g .dt ∷ g .«erp_inv_dt» ∷ g .«cfm_coeff» ∷ [])
 
 abbrev pub limitsOrdered : Limits → Bool
 limitsOrdered g = not (lt (g .max) (g .min))

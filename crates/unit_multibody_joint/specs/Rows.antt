@@ -1,10 +1,10 @@
 -- Constraint rows, by document 01's 'Constraint rows': bounds and right side, the row of any J, and J of one degree of freedom.
 use Prim.Native.Nat.{ℕ}
-use mathlib.Core.Bool.{Bool, cond, _&&_}
-use mathlib.Core.List.{List}
+use mathlib.Core.Bool.{Bool, cond}
+use mathlib.Core.List.{List, [], _∷_}
 use lib.ListN.{getD, set, replicate}
 use lib.Ieee.{Float, nan, lt, eq, neg}
-use Rattle.floats.specs.Floats.{f32, zero32, one32, plus, minus, times, over, isFinite}
+use Rattle.floats.specs.Floats.{f32, zero32, one32, plus, minus, times, over, allFinite}
 use Rattle.unit_multibody_joint.specs.declared.Limits.{Limits}
 use Rattle.unit_multibody_joint.specs.declared.Bounds.{Bounds}
 use Rattle.unit_multibody_joint.specs.declared.ConstraintRow.{ConstraintRow}
@@ -46,7 +46,7 @@ limitBounds g =
     }
 
 -- friction: bounds ±friction·dt, rhs 0
-unfoldable pub frictionBounds : Float → Float → Bounds
+abbrev pub frictionBounds : Float → Float → Bounds
 frictionBounds friction dt = record { lower = neg (times friction dt); upper = times friction dt; rhs = zero32 }
 
 -- ---- the row
@@ -67,11 +67,11 @@ rowOf b cfm lhs = record {
 }
 
 -- refused: the number, and zeros
-unfoldable pub refusedRow : ℕ → ConstraintRow
+abbrev pub refusedRow : ℕ → ConstraintRow
 refusedRow k = record { refusal = k; lower = zero32; upper = zero32; rhs = zero32; «cfm_gain» = zero32; «inv_lhs» = zero32 }
 
-unfoldable pub finiteRow : ConstraintRow → Bool
-finiteRow r = isFinite (r .lower) && isFinite (r .upper) && isFinite (r .rhs) && isFinite (r .«cfm_gain») && isFinite (r .«inv_lhs»)
+abbrev pub finiteRow : ConstraintRow → Bool
+finiteRow r = allFinite (r .lower ∷ r .upper ∷ r .rhs ∷ r .«cfm_gain» ∷ r .«inv_lhs» ∷ [])
 
 -- ---- with J and WJ
 

@@ -16,6 +16,7 @@ use arm::dof_count;
 use arm::mask_at;
 use arm::row_number;
 use elimination::square_fits;
+use floats::all_finite;
 use floats::copy;
 use floats::copy_part;
 use floats::entry;
@@ -154,7 +155,8 @@ pub fn refused_row(refusal: u8) -> ConstraintRow
 pub fn is_finite_row(r: ConstraintRow) -> bool
     ensures { λ b. ⌜ b ≡ finiteRow r ⌝ }
 {
-    finite(r.lower) & finite(r.upper) & finite(r.rhs) & finite(r.cfm_gain) & finite(r.inv_lhs)
+    let values = [r.lower, r.upper, r.rhs, r.cfm_gain, r.inv_lhs];
+    all_finite(&values)
 }
 
 // The row of any J, whose lhs stands in WJ at `at`, once no test refuses it. WJ is worked out beside the lent memory: a result may still be refused.
@@ -197,12 +199,15 @@ pub fn memory_fits(n: usize, mass: &[f32], j_room: usize, wj_room: usize) -> boo
 fn are_finite_limits(given: Limits) -> bool
     ensures { λ r. ⌜ r ≡ limitsFinite given ⌝ }
 {
-    finite(given.position)
-        & finite(given.min)
-        & finite(given.max)
-        & finite(given.dt)
-        & finite(given.erp_inv_dt)
-        & finite(given.cfm_coeff)
+    let values = [
+        given.position,
+        given.min,
+        given.max,
+        given.dt,
+        given.erp_inv_dt,
+        given.cfm_coeff,
+    ];
+    all_finite(&values)
 }
 
 // An axis as a byte; 3 stands for all that are none.
