@@ -7,17 +7,16 @@ use native.Mathlib.Omega.{arith}
 use native.Mathlib.Decide.{decLt}
 use borrow.Author.Tests.{eqb-true, eqb-false, ne-eqb}
 use lib.Dec.{eqb}
-use lib.ListN.{length, getD, set, take, length-set, length-map, length-append, List·getD-map, List·getD-append, List·getD-eq-default}
+use lib.ListN.{length, getD, set, take, length-set, length-map, List·getD-map, List·getD-append}
 use lib.Seq.{getD-set-other, take-set-le, length-take-le, take-append-le, take-at}
 use lib.Ieee.{Float}
-use Rattle.one_link.specs.Promise.{Right}
 use Rattle.arm.specs.Sized.{Sized}
 use Rattle.lists.proofs.Parts.{with-length, take-drop-take}
 use Rattle.lists.proofs.Modified.{length-modify, modify-same, modify-other}
 use Rattle.lists.proofs.Lists.{map-take, map-at}
 use Rattle.lists.specs.Lists.{part, laid, modify}
 use Rattle.limits.specs.Limits.{linkLimit, dofLimit}
-use Rattle.masks.specs.Masks.{bitOf, isFree, dofsBelow, dofsOf, dampingRow}
+use Rattle.masks.specs.Masks.{dofsOf, dampingRow}
 use Rattle.masks.specs.Starts.{totalOf, startOf}
 use Rattle.masks.proofs.Laws.{dofs-le}
 use Rattle.arm.specs.declared.Link.{Link}
@@ -25,7 +24,7 @@ use Rattle.arm.specs.declared.Row.{Row}
 use Rattle.arm.specs.declared.RowName.{RowName}
 use Rattle.arm.specs.declared.RowName.the-variants.{Velocities, Damping, Armature, Frictions, Accelerations}
 use Rattle.arm.specs.declared.Arm.{Arm}
-use Rattle.arm.specs.Arm.{masksOf, maskAt, startAt, dofCountOf, rowNumber, entriesOf, entriesTo, noLink, linkAt, lockedOf}
+use Rattle.arm.specs.Arm.{couplingsOf, rowIn, ownPart, masksOf, maskAt, startAt, dofCountOf, rowNumber, entriesOf, entriesTo, noLink, linkAt, lockedOf}
 use Rattle.arm.proofs.Live.{masks-live, part-within}
 use Rattle.kinematics.specs.Blocks.{blockAt}
 use Rattle.kinematics.specs.Link.{finiteKept}
@@ -33,10 +32,10 @@ use Rattle.kinematics.specs.State.{state, inputsOf, keptAt, keptOps, parentAt}
 use Rattle.kinematics.proofs.Pass.{new-same}
 use Rattle.full_working.specs.Full.{Settled}
 use Rattle.kinematics.specs.Promises.{Fresh, Ready}
-use Rattle.one_link.specs.Promise.{ownEntries}
+use Rattle.one_link.specs.Promise.{Kept, Right}
 use Rattle.one_link.proofs.Parents.{parent-le}
 use Rattle.one_link.proofs.Settles.{Facts, facts}
-use Rattle.one_link.proofs.Right.{Edit, right}
+use Rattle.one_link.proofs.Right.{Edit, right, call-keeps}
 use Rattle.addition.specs.declared.NewLink.{NewLink}
 use Rattle.addition.specs.NewLink.{zeros, linkOf, entriesSet, rowsWith, addedInputs}
 use Rattle.kinematics.specs.State.{only}
@@ -149,17 +148,6 @@ module _ (ms : List ℕ) (m : ℕ) where
   unfolding startOf
   start-stays j h = ap totalOf (take-append-le j ms (m ∷ []) h)
 
-  mask-stays : (j : ℕ) → (j ≡ length ms → ⊥) → getD (ms ++ (m ∷ [])) j 7 ≡ getD ms j 7
-  mask-stays j z = elim (decLt j (length ms)) [
-    | yes h ↦ List·getD-append ms (m ∷ []) 7 j h
-    | no h ↦
-        let l : length ms < j = elim (decLt (length ms) j) [
-          | yes q ↦ q
-          | no q ↦ absurd (z (omega arith))
-        ] in
-        List·getD-eq-default (ms ++ (m ∷ [])) 7 (omega (arith, length-append ms (m ∷ []))) ∙ sym (List·getD-eq-default ms 7 (omega arith))
-  ]
-
 -- ---- the addition
 
 module _ (a : Arm) (t : List Float) (sized : Sized a) (settled : Settled a t) (new : NewLink) (k : Passed a t new) where
@@ -243,28 +231,20 @@ module _ (a : Arm) (t : List Float) (sized : Sized a) (settled : Settled a t) (n
   unfolding startAt
   start-kept j h = ap (λ (xs : List ℕ). startOf xs j) masks-added ∙ start-stays ms _ j (omega (arith, masks-length))
 
-  dofs-kept : (j : ℕ) → (IsAdded a j → ⊥) → dofsOf (maskAt (addedInputs a new) j) ≡ dofsOf (maskAt a j)
+  dofs-kept : (j : ℕ) → j < n → dofsOf (maskAt (addedInputs a new) j) ≡ dofsOf (maskAt a j)
   unfolding maskAt
-  dofs-kept j z = ap (λ (xs : List ℕ). dofsOf (getD xs j 7)) masks-added ∙ ap dofsOf (mask-stays ms _ j (λ q. z (q ∙ masks-length)))
+  dofs-kept j h = ap (λ (xs : List ℕ). dofsOf (getD xs j 7)) masks-added ∙ ap dofsOf (List·getD-append ms _ 7 j (omega (arith, masks-length)))
 
-  no-dofs : (j : ℕ) → n ≤ j → dofsOf (maskAt a j) ≡ 0
-  unfolding maskAt dofsOf dofsBelow isFree bitOf
-  no-dofs j h = ap dofsOf (List·getD-eq-default ms 7 (omega (arith, masks-length)))
-
-  -- a link that was there has its start and its mask; past the links none has entries
-  entries-stay : (j : ℕ) → (IsAdded a j → ⊥) → (name : RowName) → ownEntries (addedInputs a new) name j ≡ ownEntries a name j
-  unfolding addedInputs
-  entries-stay j z name = elim (decLt j n) [
-    | yes h ↦
-        ap₂ (λ (at w : ℕ). part at w new-row) (start-kept j h) (dofs-kept j z)
-        ∙ rows-part a sized (k .room) (new .locked) (rowNumber name) (startAt a j) (dofsOf (maskAt a j)) (row-below name) (part-within a (sized .links) j (omega (arith, k .room)))
-    | no h ↦
-        ap (λ (w : ℕ). part (startAt (addedInputs a new) j) w new-row) (dofs-kept j z ∙ no-dofs j (omega arith))
-        ∙ sym (ap (λ (w : ℕ). part (startAt a j) w (getD (map entriesOf (a .rows)) (rowNumber name) [])) (no-dofs j (omega arith)))
-  ]
-    where
-      new-row : List Float
-      new-row = getD (map entriesOf (rowsWith a (new .locked))) (rowNumber name) []
+  -- a link that was there has its start and its mask
+  kept : Kept a (addedInputs a new)
+  unfolding addedInputs couplingsOf ownPart rowIn
+  kept = record {
+    couplings = refl;
+    entries = λ name j h.
+    ap₂ (λ (at w : ℕ). part at w (getD (map entriesOf (rowsWith a (new .locked))) (rowNumber name) [])) (start-kept j h) (dofs-kept j h)
+    ∙ rows-part a sized (k .room) (new .locked) (rowNumber name) (startAt a j) (dofsOf (maskAt a j)) (row-below name)
+    (part-within a (sized .links) j (omega (arith, k .room)));
+  }
 
   edit : Edit a t (addedInputs a new) (only n) (IsAdded a)
   unfolding addedInputs
@@ -279,7 +259,6 @@ module _ (a : Arm) (t : List Float) (sized : Sized a) (settled : Settled a t) (n
     ready = ready;
     ok = λ f. still-ok a (sized .links) t new k (facts-of .ok);
     apart = λ j h z. (λ q. ne-eqb j n z, getD-set-other ls n j (linkOf new) noLink z);
-    entries = λ j h z name. entries-stay j z name;
   }
 
 pub the-addition : (a : Arm) (t : List Float) → Sized a → Settled a t → (new : NewLink)
@@ -288,3 +267,10 @@ unfolding linkAdded
 the-addition a t sized settled new =
     right a t sized settled (addRefusal a t new) (addedInputs a new) (only (a .«link_count»)) (IsAdded a) (λ e.
     edit a t sized settled new (passed a t new e))
+
+pub addition-keeps : (a : Arm) (t : List Float) → Sized a → Settled a t → (new : NewLink) → Kept a (linkAdded a t new .answer .arm)
+unfolding linkAdded
+addition-keeps a t sized settled new =
+    call-keeps a t sized settled (addRefusal a t new) (addedInputs a new) (only (a .«link_count»)) (IsAdded a)
+    (λ e. edit a t sized settled new (passed a t new e))
+    (λ e. kept a t sized settled new (passed a t new e))

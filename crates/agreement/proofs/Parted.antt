@@ -19,12 +19,12 @@ use Rattle.arm.specs.declared.Link.{Link}
 use Rattle.arm.specs.declared.Coupling.{Coupling}
 use Rattle.arm.specs.declared.Row.{Row}
 use Rattle.arm.specs.declared.Arm.{Arm}
-use Rattle.arm.specs.Arm.{liveLinks, couplingsOf, maskAt, startAt, dofCountOf, rowsOf, linkAt, noCoupling, couplingAt}
+use Rattle.arm.specs.Arm.{liveLinks, couplingsOf, maskAt, startAt, dofCountOf, rowsOf, linkAt, noCoupling, couplingAt, ownPart}
 use Rattle.arm.specs.Agree.{Agree}
 use Rattle.arm.proofs.Live.{part-within}
 use Rattle.arm.proofs.Agree.{same-parents, same-mask-at, same-start}
 use Rattle.part_arm.specs.Places.{Places, placesOf, goesOn}
-use Rattle.part_arm.specs.Part.{newLink, partLinks, ownEntries, partEntries, partRow, couplingStays, newCoupling, partCouplings, partArm}
+use Rattle.part_arm.specs.Part.{newLink, partLinks, partEntries, partRow, couplingStays, newCoupling, partCouplings, partArm}
 use Rattle.arm_split.proofs.Same.{gathered-same}
 use Rattle.agreement.proofs.Rows.{of-rows}
 use Rattle.agreement.proofs.Worked.{same-link}
@@ -42,8 +42,8 @@ abbrev rowOf : List Float → Row
 rowOf l = record { entries = l }
 
 module _ (p : Places) (a : Arm) (s : Sized a) where
-  own-seen : (l : List Float) (j : ℕ) → j < liveLinks a → ownEntries a l j ≡ ownEntries a (take (dofCountOf a) l) j
-  unfolding ownEntries
+  own-seen : (l : List Float) (j : ℕ) → j < liveLinks a → ownPart a j l ≡ ownPart a j (take (dofCountOf a) l)
+  unfolding ownPart
   own-seen l j h = within (startAt a j) (dofsOf (maskAt a j)) (dofCountOf a) l (part-within a (s .links) j h)
 
   row-seen : (row : Row) → partRow p a row ≡ partRow p a (rowOf (take (dofCountOf a) (row .entries)))
@@ -83,11 +83,11 @@ module _ (p : Places) (a b : Arm) (s : Sized a) (r : Sized b) (g : Agree a b) wh
       ∙ ap (λ (n : ℕ). chosen (min n couplingLimit) (λ i. couplingStays p (couplingAt b i)) (λ i. newCoupling (p .number) (couplingAt b i))) (g .coupling-count)
 
   row-same : (row : Row) → partRow p a row ≡ partRow p b row
-  unfolding partRow partEntries ownEntries
+  unfolding partRow partEntries ownPart
   row-same row =
       ap (λ (l : List Float). rowOf (laid l (blankRow .entries)))
       (gathered-same (liveLinks a) _ _ (λ j h. rw (same-mask-at a b g j, same-start a b g j))
-      ∙ ap (λ (n : ℕ). gathered n (λ j. cond (goesOn p j) (ownEntries b (row .entries) j) [])) same-live)
+      ∙ ap (λ (n : ℕ). gathered n (λ j. cond (goesOn p j) (ownPart b j (row .entries)) [])) same-live)
 
   rows-same : map (partRow p a) (a .rows) ≡ map (partRow p b) (b .rows)
   rows-same =

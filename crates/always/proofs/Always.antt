@@ -30,11 +30,11 @@ use Rattle.one_link.specs.Promise.{Right}
 use Rattle.one_link.proofs.Settles.{settles}
 use Rattle.one_link_move.specs.Change.{movedInputs}
 use Rattle.one_link_move.specs.Move.{moveRefusal}
-use Rattle.one_link_move.proofs.Move.{the-move}
+use Rattle.one_link_move.proofs.Move.{the-move, move-keeps}
 use Rattle.addition.specs.NewLink.{addedInputs}
 use Rattle.addition.specs.Addition.{addRefusal}
 use Rattle.addition.proofs.Tests.{passed}
-use Rattle.addition.proofs.Addition.{the-addition}
+use Rattle.addition.proofs.Addition.{the-addition, addition-keeps}
 use Rattle.whole_step.specs.Step.{armAfter, stepRefusal, wholeStep}
 use Rattle.whole_step.proofs.Settled.{step-keeps}
 use Rattle.root_change.specs.Root.{rootChanged, rootRefusal, changedRoot}
@@ -124,7 +124,9 @@ module _ (a : Arm) (t : List Float) (k : Held a t) where
     settled = k .settled;
     unused = unused-zero a (w .sized .links) t (k .settled);
     move = the-move a t (w .sized) (k .settled);
+    move-keeps = move-keeps a t (w .sized) (k .settled);
     addition = the-addition a t (w .sized) (k .settled);
+    addition-keeps = addition-keeps a t (w .sized) (k .settled);
     refused = left;
   }
 

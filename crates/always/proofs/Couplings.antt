@@ -27,7 +27,7 @@ use Rattle.full_working.specs.Outcome.{out}
 use Rattle.full_working.specs.Full.{Settled}
 use Rattle.one_link.specs.Promise.{Right}
 use Rattle.one_link.proofs.Settles.{facts, nowhere}
-use Rattle.one_link.proofs.Right.{Edit, same-entries}
+use Rattle.one_link.proofs.Right.{Edit}
 use Rattle.always.proofs.Unworked.{still-ready, edit-right}
 
 -- a test of each, and of one that is stored behind them
@@ -76,7 +76,6 @@ module _ (a : Arm) (t : List Float) (sized : Sized a) (settled : Settled a t) (c
           angles = k .ok .angles;
         };
         apart = λ j h z. (λ q. refl, refl);
-        entries = λ j h z name. same-entries new a refl refl name j;
       }
 
   pub coupling-right : Right a t (couplingRefusal a c) (withCoupling a c) (λ j. ⊥) (out (couplingAdded a c) t)

@@ -40,7 +40,7 @@ use Rattle.full_working.specs.Outcome.{out}
 use Rattle.full_working.specs.Full.{Settled}
 use Rattle.one_link.specs.Promise.{Right}
 use Rattle.one_link.proofs.Settles.{facts, nowhere}
-use Rattle.one_link.proofs.Right.{Edit, same-entries}
+use Rattle.one_link.proofs.Right.{Edit}
 use Rattle.always.proofs.Unworked.{edit-right}
 use Rattle.always.proofs.Rows.{set-finite}
 use Rattle.always.proofs.Shapes.{coordinates, Threes, coordinates-stay}
@@ -192,7 +192,6 @@ module _ (a : Arm) (t : List Float) (sized : Sized a) (settled : Settled a t) (l
         };
         ok = λ z. still-ok (holds-in (springEntries a link axis s) e (springFinite s) 6 (inr (inr (inl refl)))) (k .ok);
         apart = λ j h z. (λ q. refl, modify-other (linkSpringSet axis s) link j ls noLink z);
-        entries = λ j h z name. same-entries (withLinks a ls′) a same-masks refl name j;
       }
 
   pub spring-right : Right a t (springRefusal a link axis s) (withLinkSpring a link axis s) (λ j. j ≡ link) (out (armSpringSet a link axis s) t)

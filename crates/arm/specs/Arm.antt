@@ -5,7 +5,9 @@ use mathlib.Core.List.{List, [], map}
 use lib.Dec.{ltb}
 use lib.ListN.{take, getD}
 use lib.Ieee.{Float, nan}
+use Rattle.lists.specs.Lists.{part}
 use Rattle.limits.specs.Limits.{linkLimit, couplingLimit}
+use Rattle.masks.specs.Masks.{dofsOf}
 use Rattle.masks.specs.Starts.{totalOf, startOf}
 use Rattle.planar.specs.declared.Point.{Point}
 use Rattle.planar.specs.declared.Pose.{Pose}
@@ -97,6 +99,14 @@ entriesOf row = row .entries
 -- a row's first n entries
 abbrev pub entriesTo : ℕ → Row → List Float
 entriesTo n row = take n (entriesOf row)
+
+-- all entries of a row, those past the DoF count too
+unfoldable pub rowIn : Arm → RowName → List Float
+rowIn a name = getD (map entriesOf (a .rows)) (rowNumber name) []
+
+-- a link's own part of a row: from its start, as many entries as it has DoFs
+unfoldable pub ownPart : Arm → ℕ → List Float → List Float
+ownPart a link row = part (startAt a link) (dofsOf (maskAt a link)) row
 
 -- the rows, up to the DoF count
 unfoldable pub rowsOf : Arm → List (List Float)

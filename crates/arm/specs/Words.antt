@@ -2,19 +2,12 @@
 use Prim.Native.Nat.{ℕ, _<_}
 use mathlib.Core.Path.{_≡_}
 use mathlib.Core.Bool.{true}
-use mathlib.Core.List.{List, [], map}
-use lib.ListN.{length, getD}
-use lib.Ieee.{Float}
+use lib.ListN.{length}
 use Rattle.masks.specs.Masks.{isFree}
-use Rattle.arm.specs.declared.RowName.{RowName}
 use Rattle.arm.specs.declared.Arm.{Arm}
-use Rattle.arm.specs.Arm.{linksOf, maskAt, rowNumber, entriesOf}
+use Rattle.arm.specs.Arm.{linksOf, maskAt}
 
 -- a link that counts, with an axis that is free: it has an entry in each row
 pub record FreeAxis (a : Arm) (link axis : ℕ) : Type 0 where
   pub link-there : link < length (linksOf a)
   pub free : isFree (maskAt a link) axis ≡ true
-
--- all entries of a row, those past the DoF count too
-unfoldable pub rowIn : Arm → RowName → List Float
-rowIn a name = getD (map entriesOf (a .rows)) (rowNumber name) []

@@ -15,9 +15,9 @@ use Rattle.multibody_joint.specs.declared.Spring.{Spring}
 use Rattle.arm.specs.declared.Row.{Row}
 use Rattle.arm.specs.declared.RowName.{RowName}
 use Rattle.arm.specs.declared.Arm.{Arm}
-use Rattle.arm.specs.Arm.{rowNumber, entriesOf}
+use Rattle.arm.specs.Arm.{rowNumber, entriesOf, rowIn}
 use Rattle.arm.specs.Edits.{dofAt}
-use Rattle.arm.specs.Words.{FreeAxis, rowIn}
+use Rattle.arm.specs.Words.{FreeAxis}
 use Rattle.arm.proofs.Accepted.{live}
 use Rattle.arm.proofs.Live.{links-live}
 use Rattle.arm.proofs.Edits.{row-there, dof-in-row}

@@ -5,8 +5,7 @@ use lib.ListN.{getD}
 use lib.Ieee.{Float, nan}
 use Rattle.arm.specs.declared.RowName.{RowName}
 use Rattle.arm.specs.declared.Arm.{Arm}
-use Rattle.arm.specs.Arm.{rowNumber}
-use Rattle.arm.specs.Words.{rowIn}
+use Rattle.arm.specs.Arm.{rowNumber, rowIn}
 
 -- b is a with the entry of one place of one row set, and nothing else changed
 pub record OneEntry (a : Arm) (name : RowName) (place : ℕ) (value : Float) (b : Arm) : Type 0 where

@@ -41,13 +41,13 @@ use Rattle.arm.specs.declared.Link.{Link}
 use Rattle.arm.specs.declared.Coupling.{Coupling}
 use Rattle.arm.specs.declared.Row.{Row}
 use Rattle.arm.specs.declared.Arm.{Arm}
-use Rattle.arm.specs.Arm.{liveLinks, linksOf, couplingsOf, tagOf, lockedOf, tagsOf, parentsOf, masksOf, maskAt, startAt, dofCountOf, entriesTo, rowsOf, linkAt}
+use Rattle.arm.specs.Arm.{liveLinks, linksOf, couplingsOf, tagOf, lockedOf, tagsOf, parentsOf, masksOf, maskAt, startAt, dofCountOf, entriesTo, rowsOf, linkAt, ownPart}
 use Rattle.arm.specs.Arm.{noLink, noCoupling, couplingAt, parentOf}
 use Rattle.arm.specs.HandedIn.{unique, tagsUnique, parentsEarlier, couplingLinksFit, jointMasksFit, linkMasksFit, rootMaskFits, rootFits, couplingAxesFit}
 use Rattle.arm.specs.HandedIn.{jointFinite, linkFinite, couplingFinite, rowsFinite, angleFits, linkAngleFits, armRefusal}
 use Rattle.arm.proofs.Live.{links-live, masks-live, parents-live}
 use Rattle.part_arm.specs.Places.{Places, placesOf, goesOn}
-use Rattle.part_arm.specs.Part.{newLink, partLinks, ownEntries, partEntries, partRow, couplingStays, newCoupling, partCouplings, partArm}
+use Rattle.part_arm.specs.Part.{newLink, partLinks, partEntries, partRow, couplingStays, newCoupling, partCouplings, partArm}
 use Rattle.arm_split.specs.Words.{PartPasses}
 use Rattle.arm_split.proofs.Heads.{in-survives, head-first, first-head}
 use Rattle.arm_split.proofs.Same.{gathered-same}
@@ -319,8 +319,8 @@ module _ (a : Arm) (s : Split) (k : ℕ) (sized : Sized a) (taken : armRefusal a
   unfolding couplingFinite newCoupling
   coefficients i = refl
 
-  own-finite : (entries : List Float) → allFinite (take (dofCountOf a) entries) ≡ true → (j : ℕ) → j < n → allFinite (ownEntries a entries j) ≡ true
-  unfolding ownEntries dofCountOf startAt maskAt
+  own-finite : (entries : List Float) → allFinite (take (dofCountOf a) entries) ≡ true → (j : ℕ) → j < n → allFinite (ownPart a j entries) ≡ true
+  unfolding ownPart dofCountOf startAt maskAt
   own-finite entries e j h =
       let m = masksOf a in
       let fits = start-in m j 7 (omega (arith, masks-live a (sized .links))) in
@@ -333,10 +333,10 @@ module _ (a : Arm) (s : Split) (k : ℕ) (sized : Sized a) (taken : armRefusal a
       let kept = partEntries p a (row .entries) in
       every-take isFinite d (laid kept (blankRow .entries))
       (every-join isFinite kept (drop (length kept) (blankRow .entries))
-      (finite-gathered n (λ j. cond (goesOn p j) (ownEntries a (row .entries) j) []) (λ j h. go j h (goesOn p j)))
+      (finite-gathered n (λ j. cond (goesOn p j) (ownPart a j (row .entries)) []) (λ j h. go j h (goesOn p j)))
       (every-drop isFinite (length kept) (blankRow .entries) (zeros-finite dofLimit)))
     where
-      go : (j : ℕ) → j < n → (b : Bool) → allFinite (cond b (ownEntries a (row .entries) j) []) ≡ true
+      go : (j : ℕ) → j < n → (b : Bool) → allFinite (cond b (ownPart a j (row .entries)) []) ≡ true
       go j h true = own-finite (row .entries) e j h
       go j h false = refl
 

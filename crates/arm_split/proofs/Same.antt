@@ -13,9 +13,9 @@ use Rattle.arm.specs.declared.Link.{Link}
 use Rattle.arm.specs.declared.Coupling.{Coupling}
 use Rattle.arm.specs.declared.Row.{Row}
 use Rattle.arm.specs.declared.Arm.{Arm}
-use Rattle.arm.specs.Arm.{liveLinks, linkAt, couplingAt}
+use Rattle.arm.specs.Arm.{liveLinks, linkAt, couplingAt, ownPart}
 use Rattle.part_arm.specs.Places.{Places, goesOn}
-use Rattle.part_arm.specs.Part.{newLink, partLinks, ownEntries, partEntries, partRow, couplingStays, newCoupling, partCouplings, partArm}
+use Rattle.part_arm.specs.Part.{newLink, partLinks, partEntries, partRow, couplingStays, newCoupling, partCouplings, partArm}
 
 pub gathered-same : {A : Type 0} (n : ℕ) (f g : ℕ → List A) → ((j : ℕ) → j < n → f j ≡ g j) → gathered n f ≡ gathered n g
 unfolding gathered
@@ -63,7 +63,7 @@ module _ (a : Arm) (p q : Places) (same : Agree a p q) where
 
   entries-same : (entries : List Float) → partEntries p a entries ≡ partEntries q a entries
   unfolding partEntries
-  entries-same entries = gathered-same (liveLinks a) _ _ (λ j h. ap (λ (b : Bool). cond b (ownEntries a entries j) []) (goes-same j h))
+  entries-same entries = gathered-same (liveLinks a) _ _ (λ j h. ap (λ (b : Bool). cond b (ownPart a j entries) []) (goes-same j h))
 
   row-same : (row : Row) → partRow p a row ≡ partRow q a row
   unfolding partRow

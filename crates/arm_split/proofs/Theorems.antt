@@ -19,11 +19,11 @@ use Rattle.masks.proofs.Laws.{fixed-dofs}
 use Rattle.multibody_joint.specs.Joint.{fixedJoint, newJoint}
 use Rattle.arm.specs.declared.Link.{Link}
 use Rattle.arm.specs.declared.Arm.{Arm}
-use Rattle.arm.specs.Arm.{liveLinks, lockedOf, masksOf, maskAt, startAt, dofCountOf, linkAt, noLink}
+use Rattle.arm.specs.Arm.{liveLinks, lockedOf, masksOf, maskAt, startAt, dofCountOf, linkAt, noLink, ownPart}
 use Rattle.arm.proofs.Live.{mask-there, masks-live, dof-count-le}
 use Rattle.full_working.proofs.Again.{call-settles}
 use Rattle.part_arm.specs.Places.{Places, placesOf, goesOn}
-use Rattle.part_arm.specs.Part.{newLink, partLinks, ownEntries, partEntries, partArm}
+use Rattle.part_arm.specs.Part.{newLink, partLinks, partEntries, partArm}
 use Rattle.part_arm.proofs.Turns.{blank-links}
 use Rattle.arm_split.specs.Answers.{partRefusal, armPart}
 use Rattle.arm_split.specs.Words.{PartSettles, PartDofs, PartRows}
@@ -81,21 +81,21 @@ module _ (p : Places) (a : Arm) (sized : Sized a) where
       ∙ link-dofs (liveLinks a) (omega arith)
 
   module _ (entries : List Float) (long : length entries ≡ dofLimit) where
-    own-length : (j : ℕ) → j < liveLinks a → length (ownEntries a entries j) ≡ dofsOf (maskAt a j)
-    unfolding ownEntries startAt maskAt dofCountOf
+    own-length : (j : ℕ) → j < liveLinks a → length (ownPart a j entries) ≡ dofsOf (maskAt a j)
+    unfolding ownPart startAt maskAt dofCountOf
     own-length j h =
         let m = masksOf a in
         let fits = start-in m j 7 (omega (arith, masks-live a (sized .links))) in
         length-take-le _ (drop (startOf m j) entries) (rw length-drop (omega (arith, dof-count-le a)))
 
-    entries-length : (m : ℕ) → m ≤ liveLinks a → length (gathered m (λ j. cond (goesOn p j) (ownEntries a entries j) [])) ≡ totalOf (going m)
+    entries-length : (m : ℕ) → m ≤ liveLinks a → length (gathered m (λ j. cond (goesOn p j) (ownPart a j entries) [])) ≡ totalOf (going m)
     unfolding gathered going totalOf
     entries-length zero h = refl
     entries-length (suc m) h =
-        length-append (gathered m (λ j. cond (goesOn p j) (ownEntries a entries j) [])) _
+        length-append (gathered m (λ j. cond (goesOn p j) (ownPart a j entries) [])) _
         ∙ omega (arith, entries-length m (omega arith), total-join (going m) (cond (goesOn p m) (maskAt a m ∷ []) []), one (goesOn p m) (own-length m (omega arith)))
       where
-        one : (b : Bool) → length (ownEntries a entries m) ≡ dofsOf (maskAt a m) → length (cond b (ownEntries a entries m) []) ≡ totalOf (cond b (maskAt a m ∷ []) [])
+        one : (b : Bool) → length (ownPart a m entries) ≡ dofsOf (maskAt a m) → length (cond b (ownPart a m entries) []) ≡ totalOf (cond b (maskAt a m ∷ []) [])
         one true e = omega arith
         one false e = refl
 

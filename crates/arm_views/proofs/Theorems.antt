@@ -13,7 +13,7 @@ use Rattle.refusal.proofs.Laws.{is-lowest}
 use Rattle.masks.specs.Masks.{dofsBelow, dofsOf}
 use Rattle.masks.proofs.Laws.{below-free}
 use Rattle.arm.specs.declared.Arm.{Arm}
-use Rattle.arm.specs.Arm.{maskAt, startAt}
+use Rattle.arm.specs.Arm.{maskAt, startAt, ownPart}
 use Rattle.arm.specs.Edits.{dofAt}
 use Rattle.arm.specs.Agree.{Agree}
 use Rattle.arm.proofs.Agree.{same-parents, same-mask-at, same-start, same-dofs, same-arm-refusal}
@@ -22,7 +22,7 @@ use Rattle.arm_views.specs.declared.Role.the-variants.{Velocities, Accel
 use Rattle.arm_views.specs.Numbers.{startEntries, startRefusal, startAnswer, dofsAnswer}
 use Rattle.arm_views.specs.Links.{springEntries, springRefusal, springAnswer, mulEntries, mulRefusal, mulAnswer}
 use Rattle.arm_views.specs.Branch.{branchNeeded, branchEntries, branchRefusal, armBranch}
-use Rattle.arm_views.specs.View.{rowOf, ownPart, viewEntries, viewRefusal, viewBy, viewAnswer}
+use Rattle.arm_views.specs.View.{rowOf, viewEntries, viewRefusal, viewBy, viewAnswer}
 use Rattle.arm_views.specs.Words.{OwnEntries}
 use Rattle.arm_views.proofs.Views.{Within, view-within}
 

@@ -14,12 +14,12 @@ use Rattle.lists.proofs.Bools.{both-hold}
 use Rattle.limits.specs.Limits.{linkLimit, dofLimit}
 use Rattle.masks.specs.Masks.{dofsOf}
 use Rattle.arm.specs.declared.Arm.{Arm}
-use Rattle.arm.specs.Arm.{isLink, maskAt, startAt, dofCountOf}
+use Rattle.arm.specs.Arm.{isLink, maskAt, startAt, dofCountOf, ownPart}
 use Rattle.arm.specs.HandedIn.{armRefusal}
 use Rattle.arm.proofs.Accepted.{counts-accepted}
 use Rattle.arm.proofs.Live.{part-within, dof-count-le}
 use Rattle.arm_views.specs.declared.Role.{Role}
-use Rattle.arm_views.specs.View.{seen, rowOf, ownPart, viewEntries, viewRefusal, viewBy, viewAnswer}
+use Rattle.arm_views.specs.View.{seen, rowOf, viewEntries, viewRefusal, viewBy, viewAnswer}
 
 -- the part's end lies within both rows
 pub record Within (a : Arm) (link v w : ℕ) : Type 0 where

@@ -3,12 +3,11 @@ use Prim.Native.Nat.{ℕ, zero, suc}
 use mathlib.Core.Bool.{_&&_}
 use mathlib.Core.List.{List, [], _∷_}
 use lib.Dec.{leb}
-use lib.ListN.{length, take, drop}
+use lib.ListN.{length}
 use lib.Ieee.{Float}
 use Rattle.refusal.specs.Refusal.{unlessOf, lowest}
-use Rattle.masks.specs.Masks.{dofsOf}
 use Rattle.arm.specs.declared.Arm.{Arm}
-use Rattle.arm.specs.Arm.{isLink, maskAt, startAt, dofCountOf}
+use Rattle.arm.specs.Arm.{isLink, dofCountOf, ownPart}
 use Rattle.arm.specs.HandedIn.{armRefusal}
 use Rattle.arm_views.specs.declared.Role.{Role}
 use Rattle.arm_views.specs.declared.Role.the-variants.{Velocities, Accelerations}
@@ -25,10 +24,6 @@ seen part refusal = record { part = part; refusal = refusal }
 abbrev pub rowOf : Role → List Float → List Float → List Float
 rowOf Velocities velocities accelerations = velocities
 rowOf Accelerations velocities accelerations = accelerations
-
--- a link's own part of a row: from its start, as many entries as it has DoFs
-unfoldable pub ownPart : Arm → ℕ → List Float → List Float
-ownPart a link row = take (dofsOf (maskAt a link)) (drop (startAt a link) row)
 
 -- both rows are at least as long as the DoF count; their lengths are given
 abbrev pub viewEntries : Arm → ℕ → ℕ → ℕ → List ℕ

@@ -7,9 +7,9 @@ use lib.ListN.{length, take, drop}
 use lib.Ieee.{Float}
 use Rattle.masks.specs.Masks.{dofsOf}
 use Rattle.arm.specs.declared.Arm.{Arm}
-use Rattle.arm.specs.Arm.{maskAt, startAt}
+use Rattle.arm.specs.Arm.{maskAt, startAt, ownPart}
 use Rattle.arm_views.specs.declared.Role.{Role}
-use Rattle.arm_views.specs.View.{Seen, seen, rowOf, ownPart, viewRefusal, viewBy, viewAnswer}
+use Rattle.arm_views.specs.View.{Seen, seen, rowOf, viewRefusal, viewBy, viewAnswer}
 use Rattle.exports_views.specs.declared.RowPart.{RowPart}
 use Rattle.exports_views.specs.Place.{placed, placeOf}
 

@@ -14,7 +14,7 @@ use Rattle.masks.specs.Masks.{dofsOf}
 use Rattle.masks.specs.Starts.{startOf}
 use Rattle.arm.specs.declared.Row.{Row}
 use Rattle.arm.specs.declared.RowName.{RowName}
-use Rattle.arm.specs.Arm.{linkAt, masksOf, maskAt, startAt, entriesOf, rowNumber}
+use Rattle.arm.specs.Arm.{linkAt, couplingsOf, masksOf, maskAt, startAt, entriesOf, rowNumber, rowIn, ownPart}
 use Rattle.limits.specs.Limits.{linkLimit, tableSize}
 use Rattle.arm.specs.declared.Arm.{Arm}
 use Rattle.kinematics.specs.Blocks.{blockAt}
@@ -22,7 +22,7 @@ use Rattle.kinematics.specs.State.{State, stateAfter, fineAfter, cleared, every
 use Rattle.full_working.specs.Outcome.{Outcome, says, unlessRefused, workedAll, workedMarked}
 use Rattle.full_working.specs.Full.{fullRefusal, fullWorking, Settled}
 use Rattle.kinematics.specs.Promises.{Fits, Ready}
-use Rattle.one_link.specs.Promise.{ownEntries, Untouched, Right}
+use Rattle.one_link.specs.Promise.{Kept, Untouched, Right}
 use Rattle.kinematics.proofs.Store.{after-blank}
 use Rattle.kinematics.proofs.Promises.{after-good, stays, like-full}
 use Rattle.one_link.proofs.Relinked.{same-masks}
@@ -35,11 +35,10 @@ pub record Edit (a : Arm) (t : List Float) (new : Arm) (b : ℕ → Bool) (Below
   pub ready : Ready (new .links) (new .«link_count») b t
   pub ok : allFine new t ≡ true → Accepted new
   pub apart : (j : ℕ) → j < linkLimit → (Below j → ⊥) → (j < new .«link_count» → b j ≡ false) × (linkAt (new .links) j ≡ linkAt (a .links) j)
-  pub entries : (j : ℕ) → j < linkLimit → (Below j → ⊥) → (name : RowName) → ownEntries new name j ≡ ownEntries a name j
 
--- a link's own entries are found by the masks alone
-pub same-entries : (a b : Arm) → masksOf a ≡ masksOf b → a .rows ≡ b .rows → (name : RowName) (j : ℕ) → ownEntries a name j ≡ ownEntries b name j
-unfolding startAt maskAt
+-- a link's own part of a row is found by the masks alone
+pub same-entries : (a b : Arm) → masksOf a ≡ masksOf b → a .rows ≡ b .rows → (name : RowName) (j : ℕ) → ownPart a j (rowIn a name) ≡ ownPart b j (rowIn b name)
+unfolding ownPart rowIn startAt maskAt
 same-entries a b e q name j =
     ap₂ (λ (ms : List ℕ) (rows : List Row). part (startOf ms j) (dofsOf (getD ms j 7)) (getD (map entriesOf rows) (rowNumber name) [])) e q
 
@@ -87,7 +86,6 @@ module _ (a : Arm) (t : List Float) (sized : Sized a) (settled : Settled a t) (n
       record {
         link = ap (λ (x : State). linkAt (x .links) j) (sym same-state) ∙ q .0 ∙ p .1;
         block = ap (λ (x : State). blockAt j (x .tables)) (sym same-state) ∙ q .1;
-        entries = λ name. same-entries (withLinks new (s .links)) new masks-left refl name j ∙ e .entries j h z name;
       }
 
   not-full : allFine new t ≡ false → fullWorking new t .answer .refusal ≡ 0 → ⊥
@@ -122,11 +120,22 @@ module _ (a : Arm) (t : List Float) (sized : Sized a) (settled : Settled a t) (n
         exactly = λ z. (λ y. not-full g, λ h. refl);
         as-full = λ z. absurd (omega arith);
         left = λ h. (refl, refl);
-        untouched = λ j h z. record { link = refl; block = refl; entries = λ name. refl };
+        untouched = λ j h z. record { link = refl; block = refl };
         behind = refl;
         settled = settled;
         sized = sized;
       }
+
+  keeps : Kept a new → (f : Bool) → Kept a (workedTo f a new s t .answer .arm)
+  unfolding couplingsOf
+  keeps k true = record {
+    couplings = k .couplings;
+    entries = λ name j h. same-entries (withLinks new (s .links)) new masks-left refl name j ∙ k .entries name j h;
+  }
+  keeps k false = record { couplings = refl; entries = λ name j h. refl }
+
+  kept : Kept a new → Kept a (workedMarked a new b t .answer .arm)
+  kept k = subst (λ (r : Outcome). Kept a (r .answer .arm)) (sym (as-all ∙ worked-all a new t (e .few) long)) (keeps k (allFine new t))
 
   done : Right a t 0 new Below (workedMarked a new b t)
   done = subst (Right a t 0 new Below) (sym (as-all ∙ worked-all a new t (e .few) long)) (by-test (allFine new t) refl)
@@ -141,8 +150,14 @@ right a t sized settled (suc k) new b Below e = record {
   exactly = λ z. absurd (omega arith);
   as-full = λ z. absurd (omega arith);
   left = λ h. (refl, refl);
-  untouched = λ j h z. record { link = refl; block = refl; entries = λ name. refl };
+  untouched = λ j h z. record { link = refl; block = refl };
   behind = refl;
   settled = settled;
   sized = sized;
 }
+
+pub call-keeps : (a : Arm) (t : List Float) → Sized a → Settled a t → (own : ℕ) (new : Arm) (b : ℕ → Bool) (Below : ℕ → Type 0) → (own ≡ 0 → Edit a t new b Below)
+    → (own ≡ 0 → Kept a new) → Kept a (unlessRefused own a t (workedMarked a new b t) .answer .arm)
+unfolding unlessRefused
+call-keeps a t sized settled zero new b Below e k = kept a t sized settled new b Below (e refl) (k refl)
+call-keeps a t sized settled (suc own) new b Below e k = record { couplings = refl; entries = λ name j h. refl }

@@ -3,13 +3,11 @@
 use Prim.Native.Nat.{ℕ, _<_}
 use mathlib.Core.Path.{_≡_}
 use mathlib.Core.Logic.{_↔_}
-use mathlib.Core.List.{List, [], map}
-use lib.ListN.{drop, getD}
+use mathlib.Core.List.{List}
+use lib.ListN.{drop}
 use lib.Ieee.{Float}
-use Rattle.lists.specs.Lists.{part}
-use Rattle.masks.specs.Masks.{dofsOf}
 use Rattle.arm.specs.declared.RowName.{RowName}
-use Rattle.arm.specs.Arm.{linkAt, maskAt, startAt, entriesOf, rowNumber}
+use Rattle.arm.specs.Arm.{linkAt, couplingsOf, rowIn, ownPart}
 use Rattle.arm.specs.Sized.{Sized}
 use Rattle.limits.specs.Limits.{linkLimit, tableSize}
 use Rattle.arm.specs.declared.Arm.{Arm}
@@ -17,15 +15,15 @@ use Rattle.kinematics.specs.Blocks.{blockAt}
 use Rattle.full_working.specs.Outcome.{Outcome, workedAll}
 use Rattle.full_working.specs.Full.{fullWorking, Settled}
 
--- link j's own entries of a row: from its start on, one for each of its degrees of freedom
-abbrev pub ownEntries : Arm → RowName → ℕ → List Float
-ownEntries a name j = part (startAt a j) (dofsOf (maskAt a j)) (getD (map entriesOf (a .rows)) (rowNumber name) [])
+-- arm b has arm a's couplings and, for each link of a, its own part of each row, bit for bit
+pub record Kept (a b : Arm) : Type 0 where
+  pub couplings : couplingsOf b ≡ couplingsOf a
+  pub entries : (name : RowName) (j : ℕ) → j < a .«link_count» → ownPart b j (rowIn b name) ≡ ownPart a j (rowIn a name)
 
--- link j, its block and its own entries of each row are, bit for bit, as they were
+-- link j and its block are, bit for bit, as they were
 pub record Untouched (a : Arm) (t : List Float) (r : Outcome) (j : ℕ) : Type 0 where
   pub link : linkAt (r .answer .arm .links) j ≡ linkAt (a .links) j
   pub block : blockAt j (r .memory) ≡ blockAt j t
-  pub entries : (name : RowName) → ownEntries (r .answer .arm) name j ≡ ownEntries a name j
 
 -- r is what the call left of arm a and memory t. `own` is its refusal before any result is worked out, `new` the arm with the new inputs, Below the link
 -- that is moved or added and those below it

@@ -11,7 +11,7 @@ use borrow.Author.Tests.{ltb-true}
 use lib.Dec.{ltb}
 use lib.ListN.{length}
 use lib.Ieee.{Float}
-use Rattle.one_link.specs.Promise.{Right}
+use Rattle.one_link.specs.Promise.{Kept, Right}
 use Rattle.arm.specs.Setters.{withLinks}
 use Rattle.lists.proofs.Every.{same-tests}
 use Rattle.lists.proofs.Lists.{same-map, same-front}
@@ -44,7 +44,7 @@ use Rattle.kinematics.specs.Promises.{Fresh, Ready}
 use Rattle.one_link.proofs.Parents.{parents-count, parent-of, parent-le}
 use Rattle.one_link.proofs.Settles.{allFine, Facts, facts}
 use Rattle.one_link.proofs.Sticky.{rotations-finite}
-use Rattle.one_link.proofs.Right.{Edit, same-entries, right}
+use Rattle.one_link.proofs.Right.{Edit, same-entries, right, call-keeps}
 use Rattle.one_link_move.specs.declared.Change.{Change}
 use Rattle.one_link_move.specs.Change.{changed, movedInputs}
 use Rattle.one_link_move.specs.Move.{changeFinite, angleWithin, moveRefusal, linkMoved}
@@ -226,8 +226,11 @@ module _ (a : Arm) (t : List Float) (sized : Sized a) (settled : Settled a t) (l
     ready = ready;
     ok = still-ok;
     apart = λ j h z. (λ q. unmarked j q z, modify-other (changed change) link j ls noLink (λ q. z (subst (AtOrBelow a link) (sym q) (k .there, itself))));
-    entries = λ j h z name. same-entries new a new-masks refl name j;
   }
+
+  kept : Kept a (movedInputs a link change)
+  unfolding movedInputs couplingsOf
+  kept = record { couplings = refl; entries = λ name j h. same-entries new a new-masks refl name j }
 
 pub the-move : (a : Arm) (t : List Float) → Sized a → Settled a t → (link : ℕ) (change : Change)
     → Right a t (moveRefusal a t link change) (movedInputs a link change) (AtOrBelow a link) (linkMoved a t link change)
@@ -235,3 +238,10 @@ unfolding linkMoved
 the-move a t sized settled link change =
     right a t sized settled (moveRefusal a t link change) (movedInputs a link change) (marked (marks (parentsOf a) link)) (AtOrBelow a link) (λ e.
     edit a t sized settled link change (passed a t link change e))
+
+pub move-keeps : (a : Arm) (t : List Float) → Sized a → Settled a t → (link : ℕ) (change : Change) → Kept a (linkMoved a t link change .answer .arm)
+unfolding linkMoved
+move-keeps a t sized settled link change =
+    call-keeps a t sized settled (moveRefusal a t link change) (movedInputs a link change) (marked (marks (parentsOf a) link)) (AtOrBelow a link)
+    (λ e. edit a t sized settled link change (passed a t link change e))
+    (λ e. kept a t sized settled link change (passed a t link change e))

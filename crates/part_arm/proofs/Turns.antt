@@ -18,12 +18,12 @@ use Rattle.arm.specs.declared.Link.{Link}
 use Rattle.arm.specs.declared.Coupling.{Coupling}
 use Rattle.arm.specs.declared.Row.{Row}
 use Rattle.arm.specs.declared.Arm.{Arm}
-use Rattle.arm.specs.Arm.{liveLinks, maskAt, startAt, linkAt, couplingAt}
+use Rattle.arm.specs.Arm.{liveLinks, maskAt, startAt, linkAt, couplingAt, ownPart}
 use Rattle.arm.proofs.Live.{dof-count-le, mask-there, start-more, start-within}
 use Rattle.part_arm.specs.declared.LinksOut.{LinksOut}
 use Rattle.part_arm.specs.declared.CouplingsOut.{CouplingsOut}
 use Rattle.part_arm.specs.Places.{Places, goesOn}
-use Rattle.part_arm.specs.Part.{newLink, partLinks, ownEntries, partEntries, partRow, couplingStays, newCoupling, partCouplings, partArm}
+use Rattle.part_arm.specs.Part.{newLink, partLinks, partEntries, partRow, couplingStays, newCoupling, partCouplings, partArm}
 
 -- ---- blank places
 
@@ -97,7 +97,7 @@ module _ (p : Places) (a : Arm) where
 
   module _ (whole : length (a .links) ≡ linkLimit) (old : List Float) (long : length old ≡ dofLimit) where
     abbrev pub entriesTurn : ℕ → List Float
-    entriesTurn j = cond (goesOn p j) (ownEntries a old j) []
+    entriesTurn j = cond (goesOn p j) (ownPart a j old) []
 
     module _ (j d : ℕ) (l : Link) (there : j < liveLinks a) (dofs : d ≡ dofsOf (getD (a .links) j l .joint .locked)) (start : ℕ) (begins : start ≡ startAt a j) where
       pub row-next : start + d ≡ startAt a (j + 1)
@@ -106,8 +106,8 @@ module _ (p : Places) (a : Arm) where
       pub row-room : start + d ≤ dofLimit
       row-room = omega (arith, row-next, start-within a (j + 1), dof-count-le a)
 
-      own : part start d old ≡ ownEntries a old j
-      unfolding ownEntries
+      own : part start d old ≡ ownPart a j old
+      unfolding ownPart
       own =
           let e : d ≡ dofsOf (maskAt a j) = dofs ∙ ap dofsOf (mask-there a whole j l there) in
           rw (e, begins)
@@ -127,7 +127,7 @@ module _ (p : Places) (a : Arm) where
         entries-lost e entries′ at′ x y =
             laid-as entriesTurn (blankRow .entries) (j + 1) entries at (laid-skip entriesTurn (blankRow .entries) j entries at t (if-not (goesOn p j) _ _ e)) entries′ at′ x y
 
-  pub row-done : (row : Row) (j : ℕ) (entries : List Float) (at : ℕ) → Laid (λ i. cond (goesOn p i) (ownEntries a (row .entries) i) []) (blankRow .entries) j entries at → j ≡ liveLinks a
+  pub row-done : (row : Row) (j : ℕ) (entries : List Float) (at : ℕ) → Laid (λ i. cond (goesOn p i) (ownPart a i (row .entries)) []) (blankRow .entries) j entries at → j ≡ liveLinks a
       → _≡_ {A = Row} (record { entries = entries }) (partRow p a row)
   unfolding partRow partEntries
   row-done row j entries at t e = cc (t .list, e)

@@ -2,20 +2,19 @@
 use Prim.Native.Nat.{ℕ, min}
 use mathlib.Core.Bool.{Bool, cond, _&&_}
 use mathlib.Core.List.{List, [], map}
-use lib.ListN.{length, take, drop}
+use lib.ListN.{length}
 use lib.Ieee.{Float}
 use Rattle.arm.specs.Empty.{blankRow, emptyArm}
 use Rattle.lists.specs.Lists.{laid}
 use Rattle.lists.specs.Numbers.{gathered, chosen}
 use Rattle.limits.specs.Limits.{couplingLimit}
-use Rattle.masks.specs.Masks.{dofsOf}
 use Rattle.multibody_joint.specs.Joint.{fixedJoint}
 use Rattle.arm.specs.declared.Link.{Link}
 use Rattle.arm.specs.declared.Coupling.{Coupling}
 use Rattle.arm.specs.declared.Row.{Row}
 use Rattle.arm.specs.declared.Arm.{Arm}
 use Rattle.arm.specs.Setters.{withInputs, armWith}
-use Rattle.arm.specs.Arm.{liveLinks, maskAt, startAt, linkAt, couplingAt}
+use Rattle.arm.specs.Arm.{liveLinks, linkAt, couplingAt, ownPart}
 use Rattle.part_arm.specs.Places.{Places, goesOn}
 
 -- ---- links
@@ -32,13 +31,9 @@ partLinks p a =
 
 -- ---- rows
 
--- link j's own entries of a row: as many as its DoFs, from its start
-unfoldable pub ownEntries : Arm → List Float → ℕ → List Float
-ownEntries a entries j = take (dofsOf (maskAt a j)) (drop (startAt a j) entries)
-
 -- the entries of those that go on, in order; a head's are lost
 unfoldable pub partEntries : Places → Arm → List Float → List Float
-partEntries p a entries = gathered (liveLinks a) (λ j. cond (goesOn p j) (ownEntries a entries j) [])
+partEntries p a entries = gathered (liveLinks a) (λ j. cond (goesOn p j) (ownPart a j entries) [])
 
 unfoldable pub partRow : Places → Arm → Row → Row
 partRow p a row = record { entries = laid (partEntries p a (row .entries)) (blankRow .entries) }

@@ -14,16 +14,15 @@ use Rattle.lists.proofs.Gathered.{Laid, laid-none, laid-length}
 use Rattle.arm.proofs.Live.{start-none}
 use Rattle.arm.proofs.Shape.{links-length, row-length}
 use Rattle.part_arm.proofs.Turns.{row-next, row-room, entries-kept, entries-lost, row-done}
-use Rattle.part_arm.specs.Part.{ownEntries}
 use Rattle.part_arm.specs.Places.{goesOn}
-use Rattle.arm.specs.Arm.{liveLinks, startAt}
+use Rattle.arm.specs.Arm.{liveLinks, startAt, ownPart}
 use Rattle.part_arm.proofs.row_out.Statement.{statement}
 use Rattle.part_arm.proofs.row_out.Tie as tie
 
 abbrev Inv-loop : tie.InvT-loop
 Inv-loop places k arm n old entries₀ at₀ start₀ j₀ entries at start j =
     (n ≡ liveLinks arm) × (j ≤ n) × (start ≡ startAt arm j) × (at ≤ start)
-    × Laid (λ i. cond (goesOn (placesIn places k) i) (ownEntries arm old i) []) (blankRow .entries) j entries at
+    × Laid (λ i. cond (goesOn (placesIn places k) i) (ownPart arm i old) []) (blankRow .entries) j entries at
 
 abbrev μ-loop : tie.MeasureT-loop
 μ-loop places k arm n old entries₀ at₀ start₀ j₀ entries at start j = n - j
