@@ -11,7 +11,15 @@
  *
  * Every call that can be refused returns a struct with a field `refusal`: 0, or a number from 1 to 12, the lowest that applies. Beside it stands what is
  * asked for: a count, an arm or floats. Where refused that is zeros, an edited arm the one that came, and where an arm is made (`giellavor_empty`, the
- * parts) the empty one; and nothing that was lent has changed. */
+ * parts) the empty one; and nothing that was lent has changed.
+ *
+ * An arm's picture is its poses, its shifts and its tables. It is never stale where a caller keeps to this:
+ *
+ *   - An arm begins with `giellavor_empty`, as a part of a split, or with `giellavor_full_working`, each not refused.
+ *   - The same tables go with it into every call that takes tables. Each arm has tables of its own.
+ *   - Nobody else writes the arm or the first GIELLAVOR_TABLES floats of its tables: every edit is a call, and its answer's arm is the arm from then on.
+ *
+ * What is stale is refused by no call: a call can't tell. After a write past these functions, begin again with a full working. */
 #ifndef GIELLAVOR_H
 #define GIELLAVOR_H
 
@@ -38,6 +46,8 @@ uint32_t giellavor_size(uint32_t place);
 #define GIELLAVOR_LINKS 16
 #define GIELLAVOR_COUPLINGS 8
 #define GIELLAVOR_DOFS 48
+
+/* A block, a link's Jacobian: three rows (X, Y, angle) of GIELLAVOR_DOFS columns, a row after the other. The tables: a block for each link, in order. */
 #define GIELLAVOR_BLOCK 144
 #define GIELLAVOR_TABLES 2304
 
@@ -66,7 +76,7 @@ typedef struct GiellavorPose {
 /* ---- An arm */
 
 /* A joint between a link and its parent: which axes are free, where its frames stand, and where it is along its axes. Bit 0 of a mask is X, bit 1
- * is Y, bit 2 the angle. */
+ * is Y, bit 2 the angle; axis 0 is X, 1 is Y, 2 the angle, in radians. */
 typedef struct GiellavorJoint {
     uint8_t locked;
     uint8_t limit;
@@ -161,9 +171,9 @@ typedef struct GiellavorForce {
     float torque;
 } GiellavorForce;
 
-/* ---- Answers: a refusal or 0, and what is asked for; zeros where refused */
+/* ---- Answers: a refusal or 0, and what is asked for; zeros where refused, but for an arm */
 
-/* The new arm, or the arm as it came. */
+/* The new arm; refused, the arm as it came, and where an arm is made (`giellavor_empty`, the parts) the empty one. */
 typedef struct GiellavorEdited {
     GiellavorArm arm;
     uint8_t refusal;
@@ -278,7 +288,7 @@ GiellavorEdited giellavor_set_spring(GiellavorArm arm, uint32_t link, uint32_t a
 
 /* ---- Moves: one link's inputs are set, and it and the links below it are worked out */
 
-/* A free coordinate. Refused: 1 to 7, 9, 12. */
+/* A free coordinate: along axis 0 or 1, or the angle of axis 2, in radians. Refused: 1 to 7, 9, 12. */
 GiellavorEdited giellavor_move_coordinate(GiellavorArm arm, float *tables, size_t tables_len, uint32_t link, uint32_t axis, float value);
 
 /* Both frames. Refused: 1 to 5, 7 to 9, 12. */

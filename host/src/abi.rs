@@ -229,9 +229,9 @@ pub struct Force {
     pub torque: f32,
 }
 
-// ---- Answers: a refusal or 0, then what is asked for; zeros where refused
+// ---- Answers: a refusal or 0, then what is asked for; zeros where refused, but for an arm
 
-/// The new arm, or the arm as it came.
+/// The new arm; refused, the arm as it came, and where an arm is made (`ffi::empty`, the parts) the empty one.
 #[repr(C)]
 #[derive(Clone, Copy, Debug, PartialEq)]
 pub struct Edited {

@@ -9,7 +9,7 @@
 //! out into go through these functions together. Whoever writes either by hand, or hands in other tables, calls [`full_working`] first.
 //!
 //! Before the first call the archive is asked for its version and the size of every struct. Where these aren't this crate's, no function of it is run:
-//! every call is refused by 255, and answers zeros beside that.
+//! every call is refused by 255, and answers zeros beside that; an arm that is edited stays.
 #![allow(unsafe_code)]
 #![allow(clippy::too_many_arguments)]
 

@@ -108,7 +108,7 @@ anglesFit a = every linkAngleFits (linksOf a)
 
 -- ---- the refusal
 
--- one entry for each rule: what a call that takes an arm adds to its own
+-- one entry for each rule
 unfoldable pub armEntries : Arm → List ℕ
 armEntries a =
     unlessOf (countsFit a) 2

@@ -16,7 +16,7 @@ use Rattle.masks.specs.Starts.{startOf}
 use Rattle.arm.specs.HandedIn.{couplingsLinksFit, linkMasksFit, couplingAxesFit, linkFinite, couplingFinite, anglesFit, armRefusal}
 use Rattle.arm.specs.Arm.{linksOf, couplingsOf, tagsOf, parentsOf, masksOf, entriesTo}
 
--- a row's first n entries
+-- a row's first n entries are finite
 unfoldable pub rowFinite : ℕ → Row → Bool
 rowFinite n row = allFinite (entriesTo n row)
 

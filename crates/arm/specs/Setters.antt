@@ -1,4 +1,4 @@
--- Links and arms, made and changed: here alone every field is named.
+-- Links and arms, made and changed.
 use Prim.Native.Nat.{ℕ}
 use mathlib.Core.List.{List}
 use Rattle.planar.specs.declared.Point.{Point}
@@ -48,7 +48,7 @@ withPlace l world shift02 shift23 = linkWith l (l .parent) (l .joint) (l .centre
 
 -- ---- an arm
 
--- other counts, links, couplings and rows
+-- a with other counts, links, couplings and rows: these are all its fields
 abbrev pub armWith : Arm → ℕ → ℕ → List Link → List Coupling → List Row → Arm
 armWith a linkCount couplingCount links couplings rows = record {
   «link_count» = linkCount;

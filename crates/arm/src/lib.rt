@@ -83,14 +83,14 @@ pub struct Arm {
     pub rows: [Row; 5],
 }
 
-// What a call that edits an arm answers: the new arm, or a refusal and the arm as it came.
+// The new arm; refused, the arm as it came, and where an arm is made (empty, parts) the empty one.
 #[repr(C)]
 pub struct Edited {
     pub arm: Arm,
     pub refusal: u8,
 }
 
-// ---- Made, and changed: here alone every field is named
+// ---- Made, and changed
 
 // A new link: its pose and shifts are yet to be worked out.
 pub fn unplaced_link(tag: u32, parent: u8, joint: Joint, centre: Point) -> Link

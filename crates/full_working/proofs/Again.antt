@@ -1,4 +1,4 @@
--- What the full working leaves, it leaves again: a pass changes no link's inputs, so over what it left everyLink result is as it is. Hence what a call that
+-- What the full working leaves, it leaves again: a pass changes no link's inputs, so over what it left every result is as it is. Hence what a call that
 -- ends in the working of an accepted arm leaves is settled. Assumes nothing.
 use Prim.Native.Nat.{ℕ, zero, suc, _*_, _≤_, _<_}
 use mathlib.Core.Path.{_≡_, refl, sym, ap, ap₂, _∙_, subst}
@@ -248,7 +248,7 @@ module _ (old new : Arm) (sized : length (new .links) ≡ linkLimit) (t : List F
       let w = worked old new t r in
       subst Leaves (sym (w .leaves)) (sized-after new sized t (w .long) p (w .fine), settled-after new sized t (w .long) p (w .fine))
 
-  -- it leaves everyLink joint
+  -- it leaves every joint
   joint-left : workedAll old new t .answer .refusal ≡ 0 → (j : ℕ) → linkAt (workedAll old new t .answer .arm .links) j .joint ≡ linkAt (new .links) j .joint
   unfolding withPlace
   joint-left r j =
@@ -267,7 +267,7 @@ module _ (old new : Arm) (sized : length (new .links) ≡ linkLimit) (t : List F
         go zero f r = all-settles (f refl) r
         go (suc k) f r = absurd (omega arith)
 
-    -- a refusal leaves all as it came
+    -- a refusal answers `old`, and leaves the memory
     pub call-stays : (call .answer .refusal ≡ 0 → ⊥) → (call .answer .arm ≡ old) × (call .memory ≡ t)
     unfolding unlessRefused workedAll workedBy refreshAll passed
     call-stays = go k

@@ -1,4 +1,4 @@
--- A call that is refused says its number and leaves all as it came; one that is not goes on. Assumes nothing.
+-- A call that is refused says its number, with the arm given for that, and leaves the memory; one that is not goes on. Assumes nothing.
 use Prim.Native.Nat.{ℕ, zero, suc}
 use mathlib.Core.Path.{_≡_, refl, sym, ap, _∙_}
 use mathlib.Core.List.{List}

@@ -23,7 +23,7 @@ out e t = record { answer = e; memory = t }
 abbrev pub says : ℕ → Arm → List Float → Outcome
 says k a t = out (record { refusal = k; arm = a }) t
 
--- refused: the number, and all as it came; else what follows
+-- refused: the number, the arm given for that, and the memory as it was; else what follows
 unfoldable pub unlessRefused : ℕ → Arm → List Float → Outcome → Outcome
 unlessRefused zero a t next = next
 unlessRefused (suc k) a t next = says (suc k) a t
@@ -34,7 +34,7 @@ tablesFit t = leb tableSize (length t)
 
 -- ---- an arm worked out: 12 where a result isn't finite
 
--- the new arm with the links that a pass left, or 12 and the old one
+-- the new arm with the links that a pass left, or 12 and the arm given for that
 unfoldable pub workedBy : Arm → Arm → Refreshed → Edited
 workedBy old new r = cond (r .fine) (record { refusal = 0; arm = withLinks new (r .links) }) (record { refusal = 12; arm = old })
 

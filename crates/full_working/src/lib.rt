@@ -17,7 +17,7 @@ use refusal::unless;
 
 // ---- What a call ends in
 
-// The new arm with its links refreshed, or 12 and the old one.
+// The new arm with its links refreshed, or 12 and the arm given for that.
 fn worked(old: Arm, new: Arm, r: Refreshed) -> Edited
     ensures { λ e. ⌜ e ≡ workedBy old new r ⌝ }
 {
@@ -34,7 +34,7 @@ fn worked(old: Arm, new: Arm, r: Refreshed) -> Edited
     }
 }
 
-// Every link of the new arm is worked out, and all of the tables are rewritten; 12 leaves the old arm and the tables.
+// Every link of the new arm is worked out, and all of the tables are rewritten; or 12 and the arm given for that, and the tables stay.
 pub fn work_all(old: Arm, new: Arm, tables: &mut [f32]) -> Edited
     ensures { λ e. ⌜ out e (now (tables .exit)) ≡ workedAll old new (now (tables .entry)) ⌝ }
 {

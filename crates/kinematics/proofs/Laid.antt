@@ -1,4 +1,4 @@
--- Blocks blocksLaid over a list of blocks: the marked ones are the new, the others are as they were. Assumes nothing.
+-- Blocks laid over a list of blocks: the marked ones are the new, the others are as they were. Assumes nothing.
 use mathlib.Core.Path.{_≡_, refl, sym, ap, ap₂, _∙_}
 use Prim.Native.Nat.{ℕ, zero, suc, _+_, _*_, _≤_, _<_}
 use mathlib.Core.Bool.{Bool, true, false, cond}

@@ -1,4 +1,4 @@
--- The promises of the pass: states that keep the same of everyLink link are equal, and the laws of any store say what is kept. Assumes nothing.
+-- The promises of the pass: states that keep the same of every link are equal, and the laws of any store say what is kept. Assumes nothing.
 use mathlib.Core.Path.{_≡_, refl, sym, ap, ap₂, _∙_}
 use Prim.Native.Nat.{ℕ, zero, suc, _+_, _*_, _≤_, _<_}
 use mathlib.Core.Bool.{Bool, true, false, cond}

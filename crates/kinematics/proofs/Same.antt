@@ -49,7 +49,7 @@ module _ (ls : List Link) (b b′ : ℕ → Bool) (t : List Float) where
 -- ---- the full pass
 
 module _ (ls : List Link) (sized : length ls ≡ linkLimit) where
-  -- everyLink result is what its parent's gives
+  -- every result is what its parent's gives
   pub every-fresh : (n : ℕ) → n ≤ linkLimit → (t : List Float) → tableSize ≤ length t → (j : ℕ) → j < n → keptAt (stateAfter ls n everyLink t) j ≡ resultOf ls (stateAfter ls n everyLink t) j
   unfolding stateAfter laws
   every-fresh n fit t long = full-fresh keptOps (parentAt ls) (inputsOf ls) linkLimit n fit laws (state ls t) (sized, long)

@@ -75,7 +75,7 @@ module _ (ls : List Link) (b : ℕ → Bool) (t : List Float) where
   unfolding allBelow
   fine-more j f g e h q = rw (add-one, h, e, q)
 
-  -- the tables that the pass leaves are the blocks blocksLaid over them
+  -- the tables that the pass leaves are the blocks laid over them
   pub tables-after : (n : ℕ) → stateAfter ls n b t .tables ≡ blocksLaid b (newBlock ls b t) n t
   unfolding stateAfter run blocksLaid newBlock putKept
   tables-after zero = refl

@@ -1,4 +1,4 @@
--- What the passes, and the turn of one link alone, answer and what the lent tables then hold.
+-- What the passes answer, and what the lent tables then hold.
 use Prim.Native.Nat.{ℕ, min}
 use mathlib.Core.Bool.{Bool, true, false, _&&_}
 use mathlib.Core.List.{List}
@@ -28,7 +28,7 @@ refreshMarked ls n b t =
     let count = min n linkLimit in
     passed (leb tableSize (length t) && fineAfter ls count b t) (stateAfter ls count b t) ls t
 
--- everyLink link, over cleared tables
+-- every link, over cleared tables
 unfoldable pub refreshAll : List Link → ℕ → List Float → Outcome
 refreshAll ls n t =
     let count = min n linkLimit in

@@ -22,7 +22,7 @@ use Rattle.kinematics.specs.State.{State, parentAt, inputsOf, keptIn, ke
 unfoldable pub copiedFrom : Bool → Bool → ℕ → List Float → List Float → List Float
 copiedFrom later fresh at tables work = cond later (part at blockSize (cond fresh work tables)) zeroBlock
 
--- the one or the other, from the links
+-- where a link is: a later one's by its parent's link, a root's by itself
 unfoldable pub posedOf : Bool → Link → Link → Posed
 posedOf true above l = laterPosed (above .world) (above .centre) (l .joint) (l .centre)
 posedOf false above l = rootPosed (l .joint) (l .centre)

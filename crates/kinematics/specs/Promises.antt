@@ -46,7 +46,7 @@ abbrev pub LikeFull : Type 0
 LikeFull = (ls : List Link) (n : ℕ) (b : ℕ → Bool) (t : List Float) → Fits ls n t → Ready ls n b t
     → (stateAfter ls n b t ≡ stateAfter ls n everyLink (cleared t)) × (fineAfter ls n b t ≡ fineAfter ls n everyLink (cleared t))
 
--- the full pass leaves everyLink link fresh
+-- the full pass leaves every link fresh
 abbrev pub AllFresh : Type 0
 AllFresh = (ls : List Link) (n : ℕ) (t : List Float) → Fits ls n t → (j : ℕ) → j < n → keptAt (stateAfter ls n everyLink t) j ≡ resultOf ls (stateAfter ls n everyLink t) j
 

@@ -15,7 +15,7 @@ use Rattle.multibody_joint.specs.declared.Joint.{Joint}
 abbrev pub coordinateOf : Joint → ℕ → Float
 coordinateOf j axis = getD (j .coordinates) axis nan
 
--- ---- made, and changed: here alone every field is named
+-- ---- made, and changed
 
 -- coordinates and springs zero, rotation identity
 unfoldable pub newJoint : ℕ → ℕ → ℕ → Pose → Pose → Joint

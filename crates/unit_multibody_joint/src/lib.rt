@@ -122,7 +122,7 @@ fn inv(x: f32) -> f32
     if x == 0.0 { 0.0 } else { 1.0 / x }
 }
 
-// The row of these bounds and gains.
+// The row of these bounds; its gains by lhs and cfm_coeff.
 pub fn row_of(b: Bounds, cfm_coeff: f32, lhs: f32) -> ConstraintRow
     ensures { λ r. ⌜ r ≡ rowOf b «cfm_coeff» lhs ⌝ }
 {
