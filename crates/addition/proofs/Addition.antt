@@ -241,9 +241,9 @@ module _ (a : Arm) (t : List Float) (sized : Sized a) (settled : Settled a t) (n
   kept = record {
     couplings = refl;
     entries = λ name j h.
-    ap₂ (λ (at w : ℕ). part at w (getD (map entriesOf (rowsWith a (new .locked))) (rowNumber name) [])) (start-kept j h) (dofs-kept j h)
-    ∙ rows-part a sized (k .room) (new .locked) (rowNumber name) (startAt a j) (dofsOf (maskAt a j)) (row-below name)
-    (part-within a (sized .links) j (omega (arith, k .room)));
+        ap₂ (λ (at w : ℕ). part at w (getD (map entriesOf (rowsWith a (new .locked))) (rowNumber name) [])) (start-kept j h) (dofs-kept j h)
+        ∙ rows-part a sized (k .room) (new .locked) (rowNumber name) (startAt a j) (dofsOf (maskAt a j)) (row-below name)
+        (part-within a (sized .links) j (omega (arith, k .room)));
   }
 
   edit : Edit a t (addedInputs a new) (only n) (IsAdded a)
