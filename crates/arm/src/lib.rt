@@ -379,7 +379,7 @@ fn is_finite_link(l: Link) -> bool
 }
 
 // Does the angle coordinate lie within 256 either way? A locked one too.
-fn angle_fits(j: Joint) -> bool
+pub fn angle_fits(j: Joint) -> bool
     ensures { λ r. ⌜ r ≡ angleFits j ⌝ }
 {
     let coordinates = j.coordinates;
