@@ -22,7 +22,7 @@ use Rattle.limits.specs.Limits.{linkLimit, dofLimit}
 use Rattle.refusal.specs.Refusal.{unlessOf}
 use Rattle.refusal.proofs.Laws.{is-lowest, holds-in}
 use Rattle.floats.specs.Floats.{zero32, isFinite, allFinite}
-use Rattle.floats.proofs.FiniteRows.{zero-finite}
+use Rattle.floats.proofs.FiniteRows.{zero-finite, zeros-finite}
 use Rattle.masks.specs.Masks.{dofsOf}
 use Rattle.masks.specs.Starts.{totalOf}
 use Rattle.masks.proofs.Laws.{fixed-dofs, free-dofs}
@@ -155,10 +155,6 @@ drop-finite n (x ∷ []) e = every-take isFinite n [] refl
 drop-finite n (x ∷ y ∷ []) e = every-take isFinite n [] refl
 drop-finite n (x ∷ y ∷ z ∷ xs) e = both-hold (isFinite z) _ (both-hold (isFinite y) _ (both-hold (isFinite x) _ e .1) .1) .1
 
-zeros-finite : allFinite (replicate 3 zero32) ≡ true
-unfolding ofBits
-zeros-finite = refl
-
 abbrev finiteTo : ℕ → Row → Bool
 finiteTo n row = allFinite (take n (row .entries))
 
@@ -171,7 +167,7 @@ module _ (n : ℕ) (row : Row) where
 
   narrower-finite : allFinite (take (suc (suc (suc n))) (row .entries)) ≡ true → allFinite (take n (narrowed row .entries)) ≡ true
   unfolding narrowed
-  narrower-finite e = append-finite n (drop 3 (row .entries)) (replicate 3 zero32) (drop-finite n (row .entries) e) zeros-finite
+  narrower-finite e = append-finite n (drop 3 (row .entries)) (replicate 3 zero32) (drop-finite n (row .entries) e) (zeros-finite 3)
 
   -- from each type to each
   row-finite : (from to : ℕ) → Kind from → Kind to → dofsOf to + n ≤ dofLimit → allFinite (take (dofsOf from + n) (row .entries)) ≡ true
