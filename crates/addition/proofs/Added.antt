@@ -10,7 +10,7 @@ use lib.Dec.{eqb, ltb, leb}
 use lib.ListN.{length, take, drop, getD, set, length-map, length-append, length-replicate, length-drop, List·getD-append}
 use lib.Seq.{take-suc-set, getD-at}
 use lib.Ieee.{Float}
-use Rattle.multibody_joint.specs.Joint.{newJoint}
+use Rattle.multibody_joint.specs.Joint.{zeros, newJoint}
 use Rattle.arm.specs.Setters.{unplaced}
 use Rattle.arm.proofs.Accepted.{Accepted}
 use Rattle.arm.specs.Inner.{rowFinite}
@@ -35,10 +35,11 @@ use Rattle.arm.specs.Arm.{liveLinks, linksOf, couplingsOf, tagOf, lockedOf, tag
 use Rattle.arm.specs.HandedIn.{differs, isNew, unique, tagsUnique, parentsEarlier, couplingLinksFit, jointMasksFit, linkMasksFit, rootMaskFits, rootFits, linkFinite, rowsFinite, linkAngleFits}
 use Rattle.arm.proofs.Live.{links-live, masks-live}
 use Rattle.addition.specs.declared.NewLink.{NewLink}
-use Rattle.addition.specs.NewLink.{zeros, linkOf, entriesSet, rowsWith, addedInputs}
+use Rattle.addition.specs.NewLink.{linkOf, entriesSet, rowsWith, addedInputs}
 use Rattle.addition.specs.Addition.{eachMask, masksFit}
 use Rattle.addition.proofs.Tests.{Passed, are-masks}
-use Rattle.addition.proofs.Finite.{zeros-finite, laid-finite, link-finite, link-within, row-finite, row-before}
+use Rattle.floats.proofs.FiniteRows.{zeros-finite}
+use Rattle.addition.proofs.Finite.{laid-finite, link-finite, link-within, row-finite, row-before}
 
 -- ---- a list with one more
 
@@ -163,7 +164,7 @@ module _ (a : Arm) (sized : length (a .links) ≡ linkLimit) (t : List Float) (n
   zeroed [] e = refl
   zeroed (row ∷ rows) e =
       let p = both-hold (rowFinite d row) (every (rowFinite d) rows) e in
-      both (row-finite d m zeros (zeros-enough (new .locked)) zeros-finite row (p .0)) (zeroed rows (p .1))
+      both (row-finite d m zeros (zeros-enough (new .locked)) (zeros-finite 3) row (p .0)) (zeroed rows (p .1))
 
   damped : (rows : List Row) → every (rowFinite (d + m)) rows ≡ true → every (rowFinite (d + m)) (modify (entriesSet d m (laid (dampingRow (new .locked)) zeros)) 1 rows) ≡ true
   damped rows e =

@@ -10,6 +10,7 @@ use lib.Dec.{eqb}
 use lib.ListN.{length, getD, set, take, length-set, length-map, List·getD-map, List·getD-append}
 use lib.Seq.{getD-set-other, take-set-le, length-take-le, take-append-le, take-at}
 use lib.Ieee.{Float}
+use Rattle.multibody_joint.specs.Joint.{zeros}
 use Rattle.arm.specs.Sized.{Sized}
 use Rattle.lists.proofs.Parts.{with-length, take-drop-take}
 use Rattle.lists.proofs.Modified.{length-modify, modify-same, modify-other}
@@ -22,9 +23,9 @@ use Rattle.masks.proofs.Laws.{dofs-le}
 use Rattle.arm.specs.declared.Link.{Link}
 use Rattle.arm.specs.declared.Row.{Row}
 use Rattle.arm.specs.declared.RowName.{RowName}
-use Rattle.arm.specs.declared.RowName.the-variants.{Velocities, Damping, Armature, Frictions, Accelerations}
 use Rattle.arm.specs.declared.Arm.{Arm}
 use Rattle.arm.specs.Arm.{couplingsOf, rowIn, ownPart, masksOf, maskAt, startAt, dofCountOf, rowNumber, entriesOf, entriesTo, noLink, linkAt, lockedOf}
+use Rattle.arm.proofs.Edits.{row-there}
 use Rattle.arm.proofs.Live.{masks-live, part-within}
 use Rattle.kinematics.specs.Blocks.{blockAt}
 use Rattle.kinematics.specs.Link.{finiteKept}
@@ -37,7 +38,7 @@ use Rattle.one_link.proofs.Parents.{parent-le}
 use Rattle.one_link.proofs.Settles.{Facts, facts}
 use Rattle.one_link.proofs.Right.{Edit, right, call-keeps}
 use Rattle.addition.specs.declared.NewLink.{NewLink}
-use Rattle.addition.specs.NewLink.{zeros, linkOf, entriesSet, rowsWith, addedInputs}
+use Rattle.addition.specs.NewLink.{linkOf, entriesSet, rowsWith, addedInputs}
 use Rattle.kinematics.specs.State.{only}
 use Rattle.addition.specs.Addition.{addRefusal, linkAdded}
 use Rattle.addition.specs.Promise.{IsAdded}
@@ -133,13 +134,6 @@ module _ (a : Arm) (sized : Sized a) (few : a .«link_count» < linkLimit) (mask
       ∙ ap (part at w) (damped-front k h)
       ∙ take-drop-take at w start (getD (a .rows) k noRow .entries) l
       ∙ ap (part at w) (sym (List·getD-map entriesOf (a .rows) k noRow))
-
-row-below : (name : RowName) → rowNumber name < 5
-row-below Velocities = omega arith
-row-below Damping = omega arith
-row-below Armature = omega arith
-row-below Frictions = omega arith
-row-below Accelerations = omega arith
 
 -- ---- one mask more
 
@@ -242,7 +236,7 @@ module _ (a : Arm) (t : List Float) (sized : Sized a) (settled : Settled a t) (n
     couplings = refl;
     entries = λ name j h.
         ap₂ (λ (at w : ℕ). part at w (getD (map entriesOf (rowsWith a (new .locked))) (rowNumber name) [])) (start-kept j h) (dofs-kept j h)
-        ∙ rows-part a sized (k .room) (new .locked) (rowNumber name) (startAt a j) (dofsOf (maskAt a j)) (row-below name)
+        ∙ rows-part a sized (k .room) (new .locked) (rowNumber name) (startAt a j) (dofsOf (maskAt a j)) (row-there name)
         (part-within a (sized .links) j (omega (arith, k .room)));
   }
 

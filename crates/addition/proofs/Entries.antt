@@ -19,12 +19,13 @@ use Rattle.masks.specs.Masks.{dofsOf, dampingRow}
 use Rattle.masks.specs.Answers.{dampingRefusal, dampingAnswer}
 use Rattle.masks.proofs.Laws.{dofs-le}
 use Rattle.masks.proofs.Totals.{total-le}
+use Rattle.multibody_joint.specs.Joint.{zeros}
 use Rattle.arm.specs.declared.Row.{Row}
 use Rattle.arm.specs.declared.RowName.the-variants.{Damping}
 use Rattle.arm.specs.declared.Arm.{Arm}
 use Rattle.arm.specs.Arm.{masksOf, dofCountOf, rowNumber}
 use Rattle.arm.proofs.Live.{masks-live}
-use Rattle.addition.specs.NewLink.{zeros, entriesSet, rowsFrom}
+use Rattle.addition.specs.NewLink.{entriesSet, rowsFrom}
 
 -- ---- the default damping, at the front of three places
 

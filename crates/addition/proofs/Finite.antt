@@ -8,21 +8,21 @@ use lib.Dec.{eqb}
 use lib.ListN.{length, take, drop}
 use lib.Seq.{take-at, length-take-le}
 use lib.Ieee.{Float, binary32, ofBits, ofFields, lt}
-use Rattle.multibody_joint.specs.Joint.{newJoint}
+use Rattle.multibody_joint.specs.Joint.{zeros, newJoint}
 use Rattle.arm.specs.Setters.{unplaced}
 use Rattle.arm.specs.Inner.{rowFinite}
 use Rattle.lists.proofs.Every.{every-drop, every-join, every-take}
 use Rattle.lists.specs.Lists.{laid}
 use Rattle.lists.proofs.Bools.{both-hold, both}
 use Rattle.floats.specs.Floats.{isFinite, allFinite, one32}
-use Rattle.floats.proofs.FiniteRows.{zero-finite}
+use Rattle.floats.proofs.FiniteRows.{zero-finite, zeros-finite}
 use Rattle.masks.specs.Masks.{isFree, dampingOf, dampingBelow, dampingRow}
 use Rattle.planar.specs.Rotation.{isBeyond}
 use Rattle.planar.specs.Poses.{rotationOf, translationOf, identityPose, finiteRotation, finitePoint, finitePose, origin}
 use Rattle.arm.specs.declared.Row.{Row}
 use Rattle.arm.specs.HandedIn.{jointFinite, linkFinite, angleFits, linkAngleFits}
 use Rattle.addition.specs.declared.NewLink.{NewLink}
-use Rattle.addition.specs.NewLink.{zeros, linkOf, entriesSet}
+use Rattle.addition.specs.NewLink.{linkOf, entriesSet}
 use Rattle.addition.specs.Addition.{floatsFinite}
 
 -- ---- the numbers
@@ -38,9 +38,6 @@ damping-finite axis = go (eqb axis 2)
     go : (b : Bool) → isFinite (cond b (ofBits binary32 0x3DCC_CCCD) (ofBits binary32 0)) ≡ true
     go true = refl
     go false = refl
-
-pub zeros-finite : allFinite zeros ≡ true
-zeros-finite = both zero-finite (both zero-finite (both zero-finite refl))
 
 -- ---- the link
 
@@ -60,7 +57,7 @@ pub link-finite : (new : NewLink) → floatsFinite new ≡ true → linkFinite (
 unfolding linkFinite jointFinite linkOf floatsFinite unplaced newJoint
 link-finite new e =
     let p = both-hold (finitePose (new .frame1) && finitePose (new .frame2)) (finitePoint (new .centre)) e in
-    let joint = both (both (both (both (p .0) zeros-finite) identity-turn) zeros-finite) zeros-finite in
+    let joint = both (both (both (both (p .0) (zeros-finite 3)) identity-turn) (zeros-finite 3)) (zeros-finite 3) in
     both (both (both (both joint (p .1)) identity-finite) origin-finite) origin-finite
 
 pub link-within : (new : NewLink) → linkAngleFits (linkOf new) ≡ true
@@ -81,7 +78,7 @@ below-finite mask (suc axis) = every-join isFinite (dampingBelow mask axis) _ (b
 
 pub laid-finite : (mask : ℕ) → allFinite (laid (dampingRow mask) zeros) ≡ true
 unfolding dampingRow
-laid-finite mask = every-join isFinite (dampingRow mask) _ (below-finite mask 3) (every-drop isFinite (length (dampingRow mask)) zeros zeros-finite)
+laid-finite mask = every-join isFinite (dampingRow mask) _ (below-finite mask 3) (every-drop isFinite (length (dampingRow mask)) zeros (zeros-finite 3))
 
 -- ---- a row with entries set behind its first d
 

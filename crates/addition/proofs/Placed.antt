@@ -33,6 +33,13 @@ use Rattle.addition.specs.Addition.{addRefusal, linkAdded}
 use Rattle.addition.proofs.Entries.{room}
 use Rattle.addition.proofs.Tests.{passed}
 
+-- how a call may end: by 12, or with the link as it was worked out
+pub record Ends (a : Arm) (t : List Float) (new : NewLink) (start : ℕ) (r : Turned) (m : List Float) : Type 0 where
+  pub off : r .fine ≡ false → out (record { refusal = 12; arm = a }) m ≡ linkAdded a t new
+  pub on : r .fine ≡ true → (rows : List Row) → rows ≡ rowsFrom start (new .locked) (a .rows)
+      → let n = a .«link_count» in
+      out (record { refusal = 0; arm = armWith a (n + 1) (a .«coupling_count») (set (a .links) n (r .link)) (a .couplings) rows }) m ≡ linkAdded a t new
+
 module _ (a : Arm) (whole : length (a .links) ≡ linkLimit) (t : List Float) (new : NewLink) (k : ℕ) (ek : k ≡ addRefusal a t new) (none : k ≡ 0)
     (h : HandedIn) (eh : h ≡ handedIn a) (start : ℕ) (es : start ≡ startOf (take (liveLinks a) (h .masks)) (a .«link_count»)) where
   abbrev n : ℕ
@@ -62,15 +69,12 @@ module _ (a : Arm) (whole : length (a .links) ≡ linkLimit) (t : List Float) (n
         one-placed a whole n (omega (arith, few)) few (linkOf new) above p d (ep ∙ ap (λ (x : Link). min (x .parent) n) el) ea start masks (n + 1) (omega (arith, few)) t m r
         (turned ∙ ap (λ (x : Link). refreshOne x above start n t) el)
 
-    pub placed-off : r .fine ≡ false → out (record { refusal = 12; arm = a }) m ≡ linkAdded a t new
-    unfolding linkAdded addedInputs
-    placed-off f = one-off a (addedInputs a new) n t m r pass f ∙ goes-on ek a t none _
-
-    pub placed-on : r .fine ≡ true → (rows : List Row) → rows ≡ rowsFrom start (new .locked) (a .rows) → (count : ℕ) → count ≡ n + 1
-        → out (record { refusal = 0; arm = armWith a count (a .«coupling_count») (set (a .links) n (r .link)) (a .couplings) rows }) m ≡ linkAdded a t new
+    pub ends : Ends a t new start r m
     unfolding linkAdded addedInputs rowsWith
-    placed-on f rows er count ec =
-        one-on a (addedInputs a new) n t m r pass f _
-        (λ i. armWith a (ec i) (a .«coupling_count») (sym (set-set (a .links) n (linkOf new) (r .link)) i) (a .couplings)
-        ((er ∙ ap (λ (s : ℕ). rowsFrom s (new .locked) (a .rows)) behind) i))
-        ∙ goes-on ek a t none _
+    ends = record {
+      off = λ f. one-off a (addedInputs a new) n t m r pass f ∙ goes-on ek a t none _;
+      on = λ f rows er. one-on a (addedInputs a new) n t m r pass f _
+          (λ i. armWith a (n + 1) (a .«coupling_count») (sym (set-set (a .links) n (linkOf new) (r .link)) i) (a .couplings)
+          ((er ∙ ap (λ (s : ℕ). rowsFrom s (new .locked) (a .rows)) behind) i))
+          ∙ goes-on ek a t none _;
+    }

@@ -1,12 +1,11 @@
 -- A new link, its row entries, and the arm with it: damping by default, other rows, coordinates and springs zero, joint rotation identity.
 use Prim.Native.Nat.{ℕ, _+_}
 use mathlib.Core.List.{List, map}
-use lib.ListN.{set, take, replicate}
+use lib.ListN.{set, take}
 use lib.Ieee.{Float}
 use Rattle.lists.specs.Lists.{laid, modify, withPart}
-use Rattle.floats.specs.Floats.{zero32}
 use Rattle.masks.specs.Masks.{dofsOf, dampingRow}
-use Rattle.multibody_joint.specs.Joint.{newJoint}
+use Rattle.multibody_joint.specs.Joint.{zeros, newJoint}
 use Rattle.arm.specs.Setters.{unplaced, armWith}
 use Rattle.arm.specs.declared.Link.{Link}
 use Rattle.arm.specs.declared.Row.{Row}
@@ -14,9 +13,6 @@ use Rattle.arm.specs.declared.RowName.the-variants.{Damping}
 use Rattle.arm.specs.declared.Arm.{Arm}
 use Rattle.arm.specs.Arm.{dofCountOf, rowNumber}
 use Rattle.addition.specs.declared.NewLink.{NewLink}
-
-abbrev pub zeros : List Float
-zeros = replicate 3 zero32
 
 -- the link; its pose and shifts are yet to be worked out
 unfoldable pub linkOf : NewLink → Link

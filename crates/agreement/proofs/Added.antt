@@ -9,6 +9,7 @@ use lib.Seq.{take-at, take-all, take-take, length-take-le}
 use lib.Ieee.{Float}
 use Rattle.arm.proofs.Accepted.{accepted}
 use Rattle.lists.proofs.Modified.{map-modify}
+use Rattle.multibody_joint.specs.Joint.{zeros}
 use Rattle.arm.specs.Sized.{Sized}
 use Rattle.lists.specs.Lists.{laid, modify, withPart}
 use Rattle.limits.specs.Limits.{linkLimit}
@@ -20,7 +21,7 @@ use Rattle.arm.specs.Arm.{couplingsOf, dofCountOf, entriesTo, rowsOf}
 use Rattle.arm.specs.Agree.{Agree}
 use Rattle.arm.proofs.Agree.{same-dofs}
 use Rattle.addition.specs.declared.NewLink.{NewLink}
-use Rattle.addition.specs.NewLink.{zeros, linkOf, entriesSet, rowsWith, addedInputs}
+use Rattle.addition.specs.NewLink.{linkOf, entriesSet, rowsWith, addedInputs}
 use Rattle.addition.proofs.Tests.{Passed}
 use Rattle.addition.proofs.Added.{zeros-enough, laid-enough, links-added, dofs-added, still-ok}
 use Rattle.agreement.proofs.Rows.{of-rows}

@@ -9,7 +9,7 @@ use lib.ListN.{length, set, length-set}
 use lib.Seq.{take-all}
 use lib.Ieee.{Float}
 use native.Mathlib.Omega.{arith}
-use Rattle.arm.proofs.Accepted.{accepted, not-refused, Accepted, accepted, not-refused as none-refused}
+use Rattle.arm.proofs.Accepted.{accepted, not-refused, Accepted, not-refused as none-refused}
 use Rattle.refusal.proofs.Laws.{holds-in}
 use Rattle.arm.proofs.Relinked.{standing, still-accepted}
 use Rattle.arm.specs.Setters.{withLinks, withJoint}

@@ -266,7 +266,7 @@ pub fn start_among(masks: [u8; LINKS], count: usize, link: usize) -> usize
 }
 
 // Where in a row the entry of a link's axis stands, by the masks of as many links as count.
-pub fn dof_among(masks: [u8; LINKS], count: usize, link: usize, axis: u8) -> usize
+pub fn dof_among(masks: [u8; LINKS], count: usize, link: usize, axis: u32) -> usize
     ensures { λ r. ⌜ r ≡ dofAmong (take (min count linkLimit) masks) link axis ⌝ }
 {
     start_among(masks, count, link) + dofs_below(mask_among(masks, count, link), axis)
@@ -293,7 +293,7 @@ pub fn dof_count(arm: Arm) -> usize
 }
 
 // Where in a row the entry of a link's axis stands.
-pub fn dof_at(arm: Arm, link: usize, axis: u8) -> usize
+pub fn dof_at(arm: Arm, link: usize, axis: u32) -> usize
     ensures { λ r. ⌜ r ≡ dofAt arm link axis ⌝ }
 {
     dof_among(masks_of(arm), arm.link_count, link, axis)
@@ -379,7 +379,7 @@ fn is_finite_link(l: Link) -> bool
 }
 
 // Does the angle coordinate lie within 256 either way? A locked one too.
-fn angle_fits(j: Joint) -> bool
+pub fn angle_fits(j: Joint) -> bool
     ensures { λ r. ⌜ r ≡ angleFits j ⌝ }
 {
     let coordinates = j.coordinates;

@@ -1,4 +1,4 @@
--- What an accepted edit knows: its link is there, its axis is one of three, a coupling has its place. Each by its place in the list of tests.
+-- What an accepted edit knows: its link is there, its axis is free, a coupling has its place. Each by its place in the list of tests.
 -- Assumes nothing.
 use Prim.Native.Nat.{ℕ, _≤_, _<_}
 use mathlib.Core.Path.{_≡_, refl}
@@ -30,10 +30,6 @@ module _ (a : Arm) (link axis : ℕ) where
         let ks = writeEntries a link axis value in
         there a link (holds-in ks e (isLink a link) 3 (inl refl)) (is-lowest ks .none e (armRefusal a) (inr (inr (inr (inr (inl refl))))))
 
-    pub write-axis : axis ≤ 2
-    unfolding writeRefusal
-    write-axis = leb-true axis 2 (holds-in (writeEntries a link axis value) e (isAxis axis) 4 (inr (inl refl)))
-
     pub write-free : isFree (maskAt a link) axis ≡ true
     unfolding writeRefusal
     write-free = holds-in (writeEntries a link axis value) e (isFree (maskAt a link) axis) 5 (inr (inr (inl refl)))
@@ -44,10 +40,6 @@ module _ (a : Arm) (link axis : ℕ) where
     set-spring-there =
         let ks = springEntries a link axis s in
         there a link (holds-in ks e (isLink a link) 3 (inl refl)) (is-lowest ks .none e (armRefusal a) (inr (inr (inr (inl refl)))))
-
-    pub set-spring-axis : axis ≤ 2
-    unfolding springRefusal
-    set-spring-axis = leb-true axis 2 (holds-in (springEntries a link axis s) e (isAxis axis) 4 (inr (inl refl)))
 
 -- an accepted coupling has a place, and its numbers are bytes
 pub record Coupling-fits (a : Arm) (c : NewCoupling) : Type 0 where

@@ -4,7 +4,6 @@ ghost use mathlib.Core.Path.{_≡_};
 ghost use Prim.Native.Nat.{_<_};
 ghost use Rattle.arm.specs.Inner.{handedIn};
 ghost use Rattle.limits.specs.Limits.{dofLimit};
-ghost use Rattle.masks.specs.Masks.{isFree};
 ghost use Rattle.arm_edits.specs.Rows.{writeRefusal, entrySet, rowWritten};
 ghost use Rattle.arm_edits.specs.Springs.{springFinite, springRefusal, linkSpringSet, armSpringSet};
 ghost use Rattle.arm_edits.specs.Couplings.{couplingRefusal, couplingAdded};
@@ -30,16 +29,6 @@ use refusal::unless;
 
 // ---- Row writes
 
-// Is it one of the three axes, and free?
-fn axis_is_free(mask: u8, axis: u32) -> bool
-    ensures { λ r. ⌜ r ≡ isFree mask axis ⌝ }
-{
-    if is_axis(axis) {
-        return is_free(mask, axis as u8);
-    }
-    false
-}
-
 fn write_refusal(arm: Arm, handed: HandedIn, link: u32, axis: u32, value: f32) -> u8
     requires { ⌜ handed ≡ handedIn arm ⌝ }
     ensures { λ r. ⌜ r ≡ writeRefusal arm link axis value ⌝ }
@@ -49,7 +38,7 @@ fn write_refusal(arm: Arm, handed: HandedIn, link: u32, axis: u32, value: f32) -
     let refusals = [
         unless((link as usize) < arm.link_count, 4),
         unless(is_axis(axis), 5),
-        unless(axis_is_free(mask, axis), 6),
+        unless(is_free(mask, axis), 6),
         unless(finite(value), 7),
         handed.refusal,
     ];
@@ -74,7 +63,7 @@ pub fn write_row(arm: Arm, name: RowName, link: u32, axis: u32, value: f32) -> E
     let mut new = arm;
     if refusal == 0 {
         let masks = handed.masks;
-        let at = dof_among(masks, arm.link_count, link as usize, axis as u8);
+        let at = dof_among(masks, arm.link_count, link as usize, axis);
         let k = arm::row_number(name);
         let row = new.rows[k];
         new.rows[k] = with_entry(row, at, value);
@@ -102,7 +91,7 @@ fn spring_refusal(arm: Arm, link: u32, axis: u32, spring: Spring) -> u8
     lowest(&refusals)
 }
 
-fn with_spring(l: Link, axis: u8, spring: Spring) -> Link
+fn with_spring(l: Link, axis: u32, spring: Spring) -> Link
     ensures { λ r. ⌜ r ≡ linkSpringSet axis spring l ⌝ }
 {
     with_joint(l, multibody_joint::set_spring(l.joint, axis, spring))
@@ -119,7 +108,7 @@ pub fn set_spring(arm: Arm, link: u32, axis: u32, spring: Spring) -> Edited
     let at = link as usize;
     let l = arm.links[at];
     let mut new = arm;
-    new.links[at] = with_spring(l, axis as u8, spring);
+    new.links[at] = with_spring(l, axis, spring);
     Edited {
         refusal: 0,
         arm: new,

@@ -23,7 +23,7 @@ use Rattle.topology.proofs.Theorems.{with-parent, in-part}
 use Rattle.arm.specs.declared.Arm.{Arm}
 use Rattle.arm.specs.Empty.{emptyArm}
 use Rattle.arm.specs.Arm.{liveLinks, linksOf, couplingsOf, parentsOf, linkAt, noLink, noCoupling, couplingAt, parentOf}
-use Rattle.arm.specs.HandedIn.{couplingLinksFit, parentsEarlier, couplingsLinksFit, armRefusal}
+use Rattle.arm.specs.HandedIn.{couplingLinksFit, armRefusal}
 use Rattle.arm.proofs.Live.{parents-live}
 use Rattle.part_arm.specs.Places.{placesOf}
 use Rattle.part_arm.specs.Part.{partArm}

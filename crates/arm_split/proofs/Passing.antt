@@ -53,7 +53,7 @@ use Rattle.arm_split.proofs.Heads.{in-survives, head-first, first-head}
 use Rattle.arm_split.proofs.Same.{gathered-same}
 use Rattle.arm_split.proofs.Refused.{Whole, accepted-whole}
 use Rattle.arm_split.proofs.Chosen.{link-parent, coupling-links}
-use Rattle.arm_split.proofs.Picked.{every-chosen, chosen-at, map-chosen, some-unique, is-each}
+use Rattle.arm_split.proofs.Picked.{every-gathered, every-chosen, chosen-at, map-chosen, some-unique, is-each}
 
 -- ---- one link, one coupling
 
@@ -101,13 +101,6 @@ new-angle false parent l e = e
 root-seven : (ms : List ℕ) → (0 < length ms → getD ms 0 7 ≡ 7) → rootMaskFits ms ≡ true
 root-seven [] h = refl
 root-seven (m ∷ ms) h = rw (h (omega arith))
-
--- ---- finite entries
-
-finite-gathered : (n : ℕ) (f : ℕ → List Float) → ((j : ℕ) → j < n → allFinite (f j) ≡ true) → allFinite (gathered n f) ≡ true
-unfolding gathered
-finite-gathered zero f h = refl
-finite-gathered (suc n) f h = every-join isFinite (gathered n f) (f n) (finite-gathered n f (λ j l. h j (omega arith))) (h n (omega arith))
 
 -- ---- a part's lists
 
@@ -333,7 +326,7 @@ module _ (a : Arm) (s : Split) (k : ℕ) (sized : Sized a) (taken : armRefusal a
       let kept = partEntries p a (row .entries) in
       every-take isFinite d (laid kept (blankRow .entries))
       (every-join isFinite kept (drop (length kept) (blankRow .entries))
-      (finite-gathered n (λ j. cond (goesOn p j) (ownPart a j (row .entries)) []) (λ j h. go j h (goesOn p j)))
+      (every-gathered isFinite n (λ j. cond (goesOn p j) (ownPart a j (row .entries)) []) (λ j h. go j h (goesOn p j)))
       (every-drop isFinite (length kept) (blankRow .entries) (zeros-finite dofLimit)))
     where
       go : (j : ℕ) → j < n → (b : Bool) → allFinite (cond b (ownPart a j (row .entries)) []) ≡ true

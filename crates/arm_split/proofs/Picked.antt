@@ -9,6 +9,7 @@ use lib.ListN.{length, getD, List·getD-append}
 use lib.Seq.{getD-at, ext-getD}
 use Rattle.lists.proofs.Gathered.{length-chosen}
 use Rattle.lists.specs.Tests.{every}
+use Rattle.lists.proofs.Every.{every-join, every-left, every-right}
 use Rattle.lists.proofs.Numbers.{count-lt, length-each, getD-each}
 use Rattle.lists.specs.Numbers.{each, countBelow, gathered, chosen}
 use Rattle.lists.proofs.Bools.{both-hold, both}
@@ -17,17 +18,8 @@ use Rattle.arm.specs.HandedIn.{differs, isNew, unique}
 -- ---- every, of lists joined
 
 module _ {A : Type 0} (test : A → Bool) where
-  pub every-join : (xs ys : List A) → every test xs ≡ true → every test ys ≡ true → every test (xs ++ ys) ≡ true
-  every-join [] ys e f = f
-  every-join (x ∷ xs) ys e f = let h = both-hold (test x) (every test xs) e in both (h .0) (every-join xs ys (h .1) f)
-
-  pub every-front : (xs ys : List A) → every test (xs ++ ys) ≡ true → every test xs ≡ true
-  every-front [] ys e = refl
-  every-front (x ∷ xs) ys e = let h = both-hold (test x) (every test (xs ++ ys)) e in both (h .0) (every-front xs ys (h .1))
-
   pub every-last : (xs : List A) (y : A) → every test (xs ++ (y ∷ [])) ≡ true → test y ≡ true
-  every-last [] y e = both-hold (test y) true e .0
-  every-last (x ∷ xs) y e = every-last xs y (both-hold (test x) (every test (xs ++ (y ∷ []))) e .1)
+  every-last xs y e = both-hold (test y) true (every-right test xs (y ∷ []) e) .0
 
   one : (y : A) → test y ≡ true → every test (y ∷ []) ≡ true
   one y e = both e refl
@@ -36,7 +28,7 @@ module _ {A : Type 0} (test : A → Bool) where
   pub every-gathered : (n : ℕ) (f : ℕ → List A) → ((j : ℕ) → j < n → every test (f j) ≡ true) → every test (gathered n f) ≡ true
   unfolding gathered
   every-gathered zero f h = refl
-  every-gathered (suc n) f h = every-join (gathered n f) (f n) (every-gathered n f (λ j l. h j (omega arith))) (h n (omega arith))
+  every-gathered (suc n) f h = every-join test (gathered n f) (f n) (every-gathered n f (λ j l. h j (omega arith))) (h n (omega arith))
 
   pub every-chosen : (n : ℕ) (pick : ℕ → Bool) (f : ℕ → A) → ((j : ℕ) → j < n → pick j ≡ true → test (f j) ≡ true) → every test (chosen n pick f) ≡ true
   every-chosen n pick f h = every-gathered n _ (λ j l. go j l (pick j) refl)
@@ -84,14 +76,14 @@ unique-front [] t e = (refl, refl)
 unique-front (x ∷ xs) t e =
     let u = both-hold (isNew x (xs ++ (t ∷ []))) (unique (xs ++ (t ∷ []))) e in
     let r = unique-front xs t (u .1) in
-    (both (every-front (differs x) xs (t ∷ []) (u .0)) (r .0), both (every-last (differs x) xs t (u .0)) (r .1))
+    (both (every-left (differs x) xs (t ∷ []) (u .0)) (r .0), both (every-last (differs x) xs t (u .0)) (r .1))
 
 -- some of a list that passes pass
 some-pass : (test : ℕ → Bool) (pick : ℕ → Bool) (f : ℕ → ℕ) (n : ℕ) → every test (each n f) ≡ true → every test (chosen n pick f) ≡ true
 unfolding each gathered
 some-pass test pick f zero e = refl
 some-pass test pick f (suc n) e =
-    every-join test (chosen n pick f) _ (some-pass test pick f n (every-front test (each n f) (f n ∷ []) e)) (go (pick n) (every-last test (each n f) (f n) e))
+    every-join test (chosen n pick f) _ (some-pass test pick f n (every-left test (each n f) (f n ∷ []) e)) (go (pick n) (every-last test (each n f) (f n) e))
   where
     go : (b : Bool) → test (f n) ≡ true → every test (cond b (f n ∷ []) []) ≡ true
     go true p = both p refl

@@ -9,7 +9,7 @@ use Rattle.refusal.specs.Refusal.{unlessOf, lowest}
 use Rattle.topology.specs.declared.Split.{Split}
 use Rattle.topology.specs.Split.{linkOf, partCount, splitMap}
 use Rattle.arm.specs.declared.Arm.{Arm}
-use Rattle.arm.specs.Arm.{liveLinks, parentsOf}
+use Rattle.arm.specs.Arm.{liveLinks, isLink, parentsOf}
 use Rattle.arm.specs.Empty.{emptyArm}
 use Rattle.arm.specs.HandedIn.{armRefusal}
 use Rattle.full_working.specs.Outcome.{Outcome, unlessRefused, tablesFit, workedAll}
@@ -23,7 +23,7 @@ unfoldable pub splitRefusal : Arm → Split → List ℕ → ℕ
 splitRefusal a s m =
     lowest
     (unlessOf (leb (2 * liveLinks a) (length m)) 1
-    ∷ unlessOf (ltb (linkOf s) (a .«link_count»)) 4
+    ∷ unlessOf (isLink a (linkOf s)) 4
     ∷ armRefusal a
     ∷ [])
 
@@ -38,7 +38,7 @@ unfoldable pub partRefusal : Arm → Split → ℕ → List Float → ℕ
 partRefusal a s k t =
     lowest
     (unlessOf (tablesFit t) 1
-    ∷ unlessOf (ltb (linkOf s) (a .«link_count»)) 4
+    ∷ unlessOf (isLink a (linkOf s)) 4
     ∷ unlessOf (ltb k (partCount (parentsOf a) s)) 4
     ∷ armRefusal a
     ∷ [])

@@ -1,12 +1,10 @@
--- What an accepted call knows: its link is there, and its axis is one of three. Each by its place in the list of tests. Assumes nothing.
-use Prim.Native.Nat.{ℕ, _≤_}
+-- What an accepted call knows: its link is there, by its place in the list of tests. Assumes nothing.
+use Prim.Native.Nat.{ℕ}
 use mathlib.Core.Path.{_≡_, refl}
 use mathlib.Core.Logic.{inl, inr}
 use mathlib.Core.List.{List}
-use borrow.Author.Tests.{leb-true}
 use lib.Ieee.{Float}
 use Rattle.refusal.proofs.Laws.{is-lowest, holds-in}
-use Rattle.masks.specs.Masks.{isAxis}
 use Rattle.arm.specs.declared.Arm.{Arm}
 use Rattle.arm.specs.Arm.{isLink}
 use Rattle.arm.specs.HandedIn.{armRefusal}
@@ -19,10 +17,6 @@ module _ (a : Arm) (link axis : ℕ) (e : springRefusal a link axis ≡ 0) where
   spring-there =
       let ks = springEntries a link axis in
       there a link (holds-in ks e (isLink a link) 3 (inl refl)) (is-lowest ks .none e (armRefusal a) (inr (inr (inl refl))))
-
-  pub spring-axis : axis ≤ 2
-  unfolding springRefusal
-  spring-axis = leb-true axis 2 (holds-in (springEntries a link axis) e (isAxis axis) 4 (inr (inl refl)))
 
 pub mul-there : (a : Arm) (link : ℕ) (acc : List Float) → mulRefusal a link acc ≡ 0 → Link-there a link
 unfolding mulRefusal

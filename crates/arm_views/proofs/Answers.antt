@@ -15,7 +15,8 @@ use Rattle.arm.specs.Arm.{liveLinks, linksOf}
 use Rattle.arm.proofs.Live.{links-live}
 use Rattle.arm_views.specs.declared.SpringAnswer.{SpringAnswer}
 use Rattle.arm_views.specs.declared.AxesAnswer.{AxesAnswer}
-use Rattle.arm_views.specs.Links.{ofLink, noSpring, springBy, zeros, axesBy}
+use Rattle.multibody_joint.specs.Joint.{zeros}
+use Rattle.arm_views.specs.Links.{ofLink, noSpring, springBy, axesBy}
 
 -- ---- what is read of a link that counts
 

@@ -2,7 +2,7 @@
 use Prim.Native.Nat.{ℕ, zero, suc}
 use mathlib.Core.List.{List, [], _∷_, map}
 use lib.Dec.{leb}
-use lib.ListN.{length, take, getD, replicate}
+use lib.ListN.{length, take, getD}
 use lib.Ieee.{Float}
 use Rattle.refusal.specs.Refusal.{unlessOf, lowest}
 use Rattle.floats.specs.Floats.{zero32, allFinite}
@@ -10,6 +10,7 @@ use Rattle.masks.specs.Masks.{isAxis, dofsOf}
 use Rattle.multibody_joint.specs.declared.Spring.{Spring}
 use Rattle.multibody_joint.specs.Springs.{springOf}
 use Rattle.multibody_joint.specs.Motion.{onAxes}
+use Rattle.multibody_joint.specs.Joint.{zeros}
 use Rattle.arm.specs.declared.Link.{Link}
 use Rattle.arm.specs.declared.Arm.{Arm}
 use Rattle.arm.specs.Arm.{isLink, linksOf, maskAt}
@@ -58,9 +59,6 @@ mulEntries a link accelerations =
 
 unfoldable pub mulRefusal : Arm → ℕ → List Float → ℕ
 mulRefusal a link accelerations = lowest (mulEntries a link accelerations)
-
-abbrev pub zeros : List Float
-zeros = replicate 3 zero32
 
 abbrev pub axesIn : List Float → Link → List Float
 axesIn accelerations l = onAxes (l .joint) accelerations

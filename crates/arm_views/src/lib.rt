@@ -85,7 +85,7 @@ pub fn spring(arm: Arm, link: u32, axis: u32) -> SpringAnswer
     let l = arm.links[at];
     SpringAnswer {
         refusal: 0,
-        spring: multibody_joint::spring_of(l.joint, axis as u8),
+        spring: multibody_joint::spring_of(l.joint, axis),
     }
 }
 

@@ -68,7 +68,7 @@ fn add_column(block: &mut [f32], c: usize, x: f32, y: f32, w: f32)
 }
 
 // The column of an axis, if it is free.
-fn add_axis(block: &mut [f32], locked: u8, start: usize, axis: u8, x: f32, y: f32, w: f32)
+fn add_axis(block: &mut [f32], locked: u8, start: usize, axis: u32, x: f32, y: f32, w: f32)
     requires { ⌜ (length (now block) ≡ blockSize) × (start + 3 ≤ dofLimit) ⌝ }
     ensures { λ _. ⌜ now (block .exit) ≡ axisAdded locked start axis x y w (now (block .entry)) ⌝ }
 {

@@ -73,10 +73,10 @@ fn free_below(mask: u32, axis: u32) -> usize
 }
 
 // Is it one of the three axes, and free?
-pub fn is_free(mask: u8, axis: u8) -> bool
+pub fn is_free(mask: u8, axis: u32) -> bool
     ensures { λ r. ⌜ r ≡ isFree mask axis ⌝ }
 {
-    free(mask as u32, axis as u32)
+    free(mask as u32, axis)
 }
 
 // How many axes are free.
@@ -87,10 +87,10 @@ pub fn dofs(mask: u8) -> usize
 }
 
 // How many axes below an axis are free: the place of the axis' DoF among the joint's own.
-pub fn dofs_below(mask: u8, axis: u8) -> usize
+pub fn dofs_below(mask: u8, axis: u32) -> usize
     ensures { λ r. ⌜ r ≡ dofsBelow mask axis ⌝ }
 {
-    free_below(mask as u32, axis as u32)
+    free_below(mask as u32, axis)
 }
 
 // The default damping of a DoF on an axis.

@@ -15,6 +15,10 @@ use Rattle.multibody_joint.specs.declared.Joint.{Joint}
 abbrev pub coordinateOf : Joint → ℕ → Float
 coordinateOf j axis = getD (j .coordinates) axis nan
 
+-- +0 on every axis
+abbrev pub zeros : List Float
+zeros = replicate 3 zero32
+
 -- ---- made, and changed
 
 -- coordinates and springs zero, rotation identity
@@ -25,10 +29,10 @@ newJoint locked limit motor first second = record {
   motor = motor;
   frame1 = first;
   frame2 = second;
-  coordinates = replicate 3 zero32;
+  coordinates = zeros;
   rotation = rotationOf identityPose;
-  stiffness = replicate 3 zero32;
-  rest = replicate 3 zero32;
+  stiffness = zeros;
+  rest = zeros;
 }
 
 -- the joint with other frames, coordinates, rotation and springs

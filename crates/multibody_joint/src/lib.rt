@@ -76,7 +76,7 @@ pub fn with_motion(j: Joint, coordinates: [f32; 3], rotation: Rotation) -> Joint
 // ---- Its pose
 
 // x, and on a free straight axis its coordinate more.
-fn slid(j: Joint, axis: u8, x: f32) -> f32
+fn slid(j: Joint, axis: u32, x: f32) -> f32
     requires { ⌜ axis < 3 ⌝ }
     ensures { λ r. ⌜ r ≡ slidBy j axis x ⌝ }
 {
@@ -107,7 +107,7 @@ pub fn body_to_parent(j: Joint) -> Pose
 // ---- Its motion
 
 // The coordinate of an axis after dt: on a free one, its velocity times dt more.
-fn integrated_at(j: Joint, axis: u8, velocities: &[f32], dt: f32) -> f32
+fn integrated_at(j: Joint, axis: u32, velocities: &[f32], dt: f32) -> f32
     requires { ⌜ axis < 3 ⌝ }
     ensures { λ r. ⌜ r ≡ integratedAt j (now (velocities .entry)) dt axis ⌝ }
 {
@@ -140,7 +140,7 @@ pub fn integrate(j: Joint, velocities: &[f32], dt: f32) -> Joint
 }
 
 // An axis' entry of the accelerations, and +0 on a locked one.
-fn on_axis(j: Joint, axis: u8, accelerations: &[f32]) -> f32
+fn on_axis(j: Joint, axis: u32, accelerations: &[f32]) -> f32
     ensures { λ r. ⌜ r ≡ onAxis j (now (accelerations .entry)) axis ⌝ }
 {
     if is_free(j.locked, axis) {
@@ -187,7 +187,7 @@ pub fn set_free_pos(j: Joint, p: Pose) -> Joint
 // ---- Its springs
 
 // The spring of an axis, locked or not; there is none above 2, and the joint stays.
-pub fn set_spring(j: Joint, axis: u8, spring: Spring) -> Joint
+pub fn set_spring(j: Joint, axis: u32, spring: Spring) -> Joint
     ensures { λ r. ⌜ r ≡ springSet j axis spring ⌝ }
 {
     if 2 < axis {
@@ -201,7 +201,7 @@ pub fn set_spring(j: Joint, axis: u8, spring: Spring) -> Joint
 }
 
 // The spring of an axis; above 2, one of zeros.
-pub fn spring_of(j: Joint, axis: u8) -> Spring
+pub fn spring_of(j: Joint, axis: u32) -> Spring
     ensures { λ r. ⌜ r ≡ springOf j axis ⌝ }
 {
     if 2 < axis {

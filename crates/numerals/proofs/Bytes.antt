@@ -16,18 +16,17 @@ use Rattle.numerals.specs.Written.{Written, written, bytesWritten}
 use Rattle.numerals.specs.Bytes.{littleEndian}
 
 pub as-wide : (width n : ℕ) → length (littleEndian width n) ≡ width
-unfolding littleEndian
 as-wide zero n = refl
 as-wide (suc width) n = ap suc (as-wide width (n / 256))
 
 pub are-bytes : (width n : ℕ) → areBytes (littleEndian width n) ≡ true
-unfolding littleEndian areBytes
+unfolding areBytes
 are-bytes zero n = refl
 are-bytes (suc width) n = both (lt-ltb (n % 256) 256 (mod-lt n (omega arith))) (are-bytes width (n / 256))
 
 -- reading what was written gives the number
 pub number-back : (width n : ℕ) → n < 256 ^ width → numberOf (littleEndian width n) ≡ n
-unfolding littleEndian numberOf
+unfolding numberOf
 number-back zero n h = omega arith
 number-back (suc width) n h =
     let l : n / 256 < 256 ^ width = div-lt-iff-lt-mul {k = 256} {x = n} {y = 256 ^ width} (omega arith) .1 (rw pow-suc at h) in
@@ -36,7 +35,7 @@ number-back (suc width) n h =
 
 -- writing what was read gives the bytes
 pub bytes-back : (bs : List ℕ) → areBytes bs ≡ true → littleEndian (length bs) (numberOf bs) ≡ bs
-unfolding littleEndian numberOf areBytes
+unfolding numberOf areBytes
 bytes-back [] e = refl
 bytes-back (b ∷ bs) e =
     let p = both-hold (ltb b 256) (areBytes bs) e in

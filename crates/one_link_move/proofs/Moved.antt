@@ -27,7 +27,7 @@ use Rattle.kinematics.specs.declared.Turned.{Turned}
 use Rattle.kinematics.specs.State.{marked, only}
 use Rattle.kinematics.specs.Answers.{out as left, refreshMarked}
 use Rattle.kinematics.proofs.One.{asMarked}
-use Rattle.full_working.specs.Outcome.{out, workedBy, workedMarked}
+use Rattle.full_working.specs.Outcome.{Outcome, out, workedBy, workedMarked}
 use Rattle.full_working.proofs.Passed.{passed-on, one-on, one-off}
 use Rattle.one_link.proofs.One.{one-placed}
 use Rattle.one_link_move.specs.declared.Change.{Change}
@@ -36,6 +36,11 @@ use Rattle.one_link_move.specs.Move.{moveRefusal, linkMoved}
 use Rattle.one_link_move.proofs.Sets.{moved-there}
 use Rattle.one_link_move.proofs.Leaf.{leaf-marks}
 use Rattle.one_link_move.proofs.Move.{passed, within-limit}
+
+-- how a call with the arm may end: all finite, with the links as they were worked out, or by 12, with those that were kept
+pub record Ends (a : Arm) (fine : Bool) (worked kept : List Link) (m : List Float) (o : Outcome) : Type 0 where
+  pub on : fine ≡ true → (x : Edited) → x ≡ answered 0 a worked → out x m ≡ o
+  pub off : fine ≡ false → (x : Edited) → x ≡ answered 12 a kept → out x m ≡ o
 
 module _ (a : Arm) (whole : length (a .links) ≡ linkLimit) (t : List Float) (link : ℕ) (change : Change) (k : ℕ) (ek : k ≡ moveRefusal a t link change)
     (none : k ≡ 0) (h : HandedIn) (eh : h ≡ handedIn a) (d new : Link) (en : new ≡ changed change (getD (a .links) link d)) where
@@ -69,14 +74,13 @@ module _ (a : Arm) (whole : length (a .links) ≡ linkLimit) (t : List Float) (l
         one-placed a whole link (omega (arith, there)) room new above p e ep ea start (es ∙ ap (λ (ms : List ℕ). startOf ms link) (found-masks a whole h eh))
         (a .«link_count») there t m r turned
 
-    pub alone-on : r .fine ≡ true → (x : Edited) → x ≡ answered 0 a (set (a .links) link (r .link)) → out x m ≡ linkMoved a t link change
-    alone-on f x q =
-        by-marks (only link) marks-one x m
-        (ap (λ (y : Edited). out y m) q
-        ∙ one-on a (withLinks a ls) link t m r pass f _ (ap (withLinks a) (sym (set-set (a .links) link new (r .link)))))
-
-    pub alone-off : r .fine ≡ false → (x : Edited) → x ≡ answered 12 a (a .links) → out x m ≡ linkMoved a t link change
-    alone-off f x q = by-marks (only link) marks-one x m (ap (λ (y : Edited). out y m) q ∙ one-off a (withLinks a ls) link t m r pass f)
+    pub alone-ends : Ends a (r .fine) (set (a .links) link (r .link)) (a .links) m (linkMoved a t link change)
+    alone-ends = record {
+      on = λ f x q. by-marks (only link) marks-one x m
+          (ap (λ (y : Edited). out y m) q
+          ∙ one-on a (withLinks a ls) link t m r pass f _ (ap (withLinks a) (sym (set-set (a .links) link new (r .link)))));
+      off = λ f x q. by-marks (only link) marks-one x m (ap (λ (y : Edited). out y m) q ∙ one-off a (withLinks a ls) link t m r pass f);
+    }
 
   -- ---- the link and those below it
 
@@ -89,14 +93,9 @@ module _ (a : Arm) (whole : length (a .links) ≡ linkLimit) (t : List Float) (l
     unfolding workedMarked
     told x q = by-marks (marked ms) below x m (passed-on a (withLinks a ls) x r m _ pass q)
 
-    pub below-on : r .fine ≡ true → (x : Edited) → x ≡ answered 0 a (r .links) → out x m ≡ linkMoved a t link change
+    pub below-ends : Ends a (r .fine) (r .links) (set ls link (getD (a .links) link d)) m (linkMoved a t link change)
     unfolding workedBy
-    below-on f x q = told x (q ∙ rw f)
-
-    pub below-off : r .fine ≡ false → (x : Edited) → x ≡ answered 12 a (set ls link (getD (a .links) link d)) → out x m ≡ linkMoved a t link change
-    unfolding workedBy
-    below-off f x q =
-        told x
-        (q
-        ∙ ap (answered 12 a) (set-set (a .links) link new (getD (a .links) link d) ∙ set-getD (a .links) link d)
-        ∙ rw f)
+    below-ends = record {
+      on = λ f x q. told x (q ∙ rw f);
+      off = λ f x q. told x (q ∙ ap (answered 12 a) (set-set (a .links) link new (getD (a .links) link d) ∙ set-getD (a .links) link d) ∙ rw f);
+    }

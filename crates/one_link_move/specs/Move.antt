@@ -2,7 +2,7 @@
 use Prim.Native.Nat.{ℕ}
 use mathlib.Core.Bool.{Bool, true, not, _&&_}
 use mathlib.Core.List.{List, [], _∷_}
-use lib.Dec.{eqb, ltb}
+use lib.Dec.{eqb}
 use lib.Ieee.{Float}
 use Rattle.refusal.specs.Refusal.{unlessOf, lowest}
 use Rattle.floats.specs.Floats.{isFinite}
@@ -11,7 +11,7 @@ use Rattle.planar.specs.Rotation.{isBeyond}
 use Rattle.planar.specs.Poses.{rotationOf, isTurn, finitePoint, finitePose}
 use Rattle.topology.specs.Parents.{marks, parentIn}
 use Rattle.arm.specs.declared.Arm.{Arm}
-use Rattle.arm.specs.Arm.{parentsOf, maskAt}
+use Rattle.arm.specs.Arm.{isLink, parentsOf, maskAt}
 use Rattle.arm.specs.HandedIn.{armRefusal}
 use Rattle.kinematics.specs.State.{marked}
 use Rattle.full_working.specs.Outcome.{Outcome, unlessRefused, tablesFit, workedMarked}
@@ -59,7 +59,7 @@ unfoldable pub moveRefusal : Arm → List Float → ℕ → Change → ℕ
 moveRefusal a t link change =
     lowest
     (unlessOf (tablesFit t) 1
-    ∷ unlessOf (ltb link (a .«link_count»)) 4
+    ∷ unlessOf (isLink a link) 4
     ∷ unlessOf (axisFits change) 5
     ∷ unlessOf (axisFree (maskAt a link) change) 6
     ∷ unlessOf (changeFinite change && aboveFinite link (parentIn (parentsOf a) link) t) 7

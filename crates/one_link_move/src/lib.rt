@@ -3,7 +3,6 @@
 ghost use mathlib.Core.Path.{_≡_};
 ghost use Rattle.one_link_move.specs.Inner.{testsOf, leaf, answered};
 ghost use Rattle.arm.specs.Inner.{handedIn};
-ghost use Rattle.masks.specs.Masks.{isFree};
 ghost use Prim.Native.Nat.{min};
 ghost use lib.ListN.{take};
 ghost use Rattle.limits.specs.Limits.{linkLimit};
@@ -54,15 +53,6 @@ pub enum Change {
 
 // ---- What is tested of a change
 
-fn is_free_axis(locked: u8, axis: u32) -> bool
-    ensures { λ r. ⌜ r ≡ isFree locked axis ⌝ }
-{
-    if is_axis(axis) {
-        return is_free(locked, axis as u8);
-    }
-    false
-}
-
 struct ChangeTests {
     axis: bool,
     free: bool,
@@ -77,7 +67,7 @@ fn change_tests(locked: u8, change: Change) -> ChangeTests
     match change {
         Change::Coordinate { axis, value } => ChangeTests {
             axis: is_axis(axis),
-            free: is_free_axis(locked, axis),
+            free: is_free(locked, axis),
             floats: finite(value),
             turns: true,
             angle: !((axis == 2) & is_beyond(value)),

@@ -3,10 +3,8 @@ use Prim.Native.Nat.{ℕ, _+_, _*_}
 use mathlib.Core.Bool.{Bool}
 use mathlib.Core.List.{List}
 use lib.Dec.{eqb}
-use lib.ListN.{getD}
+use lib.ListN.{length, getD}
 use Rattle.topology.specs.Split.{gone}
-use Rattle.arm.specs.declared.Arm.{Arm}
-use lib.ListN.{length}
 use Rattle.arm.specs.Empty.{emptyArm}
 use Rattle.lists.specs.Lists.{laid}
 use Rattle.arm.specs.declared.Arm.{Arm}

@@ -20,12 +20,10 @@ use limits::LINKS;
 use limits::fewer;
 use masks::dofs;
 use multibody_joint::fixed;
+use topology::GONE;
 
 // Bytes of a split map: part and number of each link.
 pub const MAP: usize = 2 * LINKS;
-
-// What stands for part and number where there is none.
-const GONE: u8 = 255;
 
 // ---- Where a link goes
 

@@ -14,8 +14,7 @@ use Rattle.limits.specs.Limits.{dofLimit}
 use Rattle.floats.specs.Floats.{zero32}
 use Rattle.arm.specs.declared.Row.{Row}
 use Rattle.arm.specs.declared.Arm.{Arm}
-use Rattle.root_change.specs.declared.Root.{Root}
-use Rattle.root_change.specs.Root.{lockedBy, widened, narrowed, rootRow, rootMask, rootRows}
+use Rattle.root_change.specs.Root.{widened, narrowed, rootRow, rootMask}
 
 -- ---- one row
 

@@ -22,13 +22,13 @@ use Rattle.limits.specs.Limits.{linkLimit, dofLimit}
 use Rattle.refusal.specs.Refusal.{unlessOf}
 use Rattle.refusal.proofs.Laws.{is-lowest, holds-in}
 use Rattle.floats.specs.Floats.{zero32, isFinite, allFinite}
-use Rattle.floats.proofs.FiniteRows.{zero-finite}
+use Rattle.floats.proofs.FiniteRows.{zero-finite, zeros-finite}
 use Rattle.masks.specs.Masks.{dofsOf}
 use Rattle.masks.specs.Starts.{totalOf}
 use Rattle.masks.proofs.Laws.{fixed-dofs, free-dofs}
 use Rattle.planar.specs.declared.Pose.{Pose}
 use Rattle.planar.specs.Rotation.{isBeyond}
-use Rattle.planar.specs.Poses.{rotationOf, translationOf, finiteRotation, finitePoint, finitePose}
+use Rattle.planar.specs.Poses.{rotationOf, translationOf, isTurn, finiteRotation, finitePoint, finitePose}
 use Rattle.multibody_joint.specs.declared.Joint.{Joint}
 use Rattle.multibody_joint.specs.Joint.{freeJoint, fixedJoint, freePosSet, withFrames, newJoint}
 use Rattle.arm.specs.declared.Link.{Link}
@@ -41,7 +41,7 @@ use Rattle.full_working.specs.Outcome.{tablesFit}
 use Rattle.full_working.proofs.Again.{call-settles, call-keeps, call-joint}
 use Rattle.root_change.specs.declared.Root.{Root}
 use Rattle.root_change.specs.declared.Root.the-variants.{Free, Fixed}
-use Rattle.root_change.specs.Root.{lockedBy, rootFinite, rootTurns, rootJoint, rootLink, widened, narrowed, rootRow, rootMask, rootRows, rootChanged, rootRefusal, changedRoot}
+use Rattle.root_change.specs.Root.{lockedBy, rootPose, rootJoint, rootLink, widened, narrowed, rootRow, rootMask, rootRows, rootChanged, rootRefusal, changedRoot}
 use Rattle.root_change.specs.Promises.{RootSettles, RootKeeps}
 
 -- ---- the joint
@@ -67,16 +67,8 @@ pub kind-by : (root : Root) → Kind (lockedBy root)
 kind-by (Free p) = refl
 kind-by (Fixed p) = refl
 
-abbrev poseOf : Root → Pose
-poseOf (Free p) = p
-poseOf (Fixed p) = p
-
-pose-finite : (root : Root) → rootFinite root ≡ true → finitePose (poseOf root) ≡ true
-pose-finite (Free p) h = h
-pose-finite (Fixed p) h = h
-
 -- what holds of each of the four joints holds of the root's
-by-type : (P : Joint → Type 0) (root : Root) (j : Joint) → let p = poseOf root in
+by-type : (P : Joint → Type 0) (root : Root) (j : Joint) → let p = rootPose root in
     P (freePosSet j p) → P (withFrames j p (j .frame2)) → P (freeJoint p) → P (fixedJoint p) → P (rootJoint root j)
 unfolding rootJoint
 by-type P (Free p) j a b c d = go (eqb (j .locked) 0)
@@ -113,7 +105,7 @@ root-locked (Fixed p) j = go (eqb (j .locked) 7) refl
 
 module _ (root : Root) (j : Joint) where
   abbrev p : Pose
-  p = poseOf root
+  p = rootPose root
 
   masks-fit : jointMasksFit j ≡ true → jointMasksFit (rootJoint root j) ≡ true
   unfolding jointMasksFit freePosSet freeJoint fixedJoint newJoint
@@ -163,10 +155,6 @@ drop-finite n (x ∷ []) e = every-take isFinite n [] refl
 drop-finite n (x ∷ y ∷ []) e = every-take isFinite n [] refl
 drop-finite n (x ∷ y ∷ z ∷ xs) e = both-hold (isFinite z) _ (both-hold (isFinite y) _ (both-hold (isFinite x) _ e .1) .1) .1
 
-zeros-finite : allFinite (replicate 3 zero32) ≡ true
-unfolding ofBits
-zeros-finite = refl
-
 abbrev finiteTo : ℕ → Row → Bool
 finiteTo n row = allFinite (take n (row .entries))
 
@@ -179,7 +167,7 @@ module _ (n : ℕ) (row : Row) where
 
   narrower-finite : allFinite (take (suc (suc (suc n))) (row .entries)) ≡ true → allFinite (take n (narrowed row .entries)) ≡ true
   unfolding narrowed
-  narrower-finite e = append-finite n (drop 3 (row .entries)) (replicate 3 zero32) (drop-finite n (row .entries) e) zeros-finite
+  narrower-finite e = append-finite n (drop 3 (row .entries)) (replicate 3 zero32) (drop-finite n (row .entries) e) (zeros-finite 3)
 
   -- from each type to each
   row-finite : (from to : ℕ) → Kind from → Kind to → dofsOf to + n ≤ dofLimit → allFinite (take (dofsOf from + n) (row .entries)) ≡ true
@@ -228,7 +216,7 @@ module _ (f : Link → Link) where
   behind-stays n (l ∷ ls) = refl
 
 module _ (a : Arm) (sized : length (a .links) ≡ linkLimit) (three : length (linkAt (a .links) 0 .joint .coordinates) ≡ 3) (to : Root) (some : 0 < a .«link_count»)
-    (finite : rootFinite to ≡ true) (old : armRefusal a ≡ 0) where
+    (finite : finitePose (rootPose to) ≡ true) (old : armRefusal a ≡ 0) where
   abbrev locked : ℕ
   locked = lockedBy to
 
@@ -291,7 +279,7 @@ module _ (a : Arm) (sized : length (a .links) ≡ linkLimit) (three : length (li
       let s02 = both-hold _ (finitePoint (l .shift02)) (s23 .0) in
       let world = both-hold _ (finitePose (l .world)) (s02 .0) in
       let own = both-hold (jointFinite root) (finitePoint (l .centre)) (world .0) in
-      both (both (both (both (finite-stays to root three (pose-finite to finite) (own .0)) (own .1)) (world .1)) (s02 .1)) (s23 .1)
+      both (both (both (both (finite-stays to root three finite (own .0)) (own .1)) (world .1)) (s02 .1)) (s23 .1)
 
   -- the DoFs behind the root's stay
   abbrev n : ℕ
@@ -344,10 +332,11 @@ module _ (a : Arm) (sized : length (a .links) ≡ linkLimit) (three : length (li
   changed : (t : List Float) → rootRefusal a t to ≡ 0 → armRefusal (rootChanged a to) ≡ 0
   unfolding rootRefusal
   changed t e =
-      let ks = unlessOf (tablesFit t) 1 ∷ unlessOf (ltb 0 (a .«link_count»)) 4 ∷ unlessOf (rootFinite to) 7 ∷ unlessOf (rootTurns to) 8 ∷ armRefusal a ∷ [] in
+      let p = rootPose to in
+      let ks = unlessOf (tablesFit t) 1 ∷ unlessOf (ltb 0 (a .«link_count»)) 4 ∷ unlessOf (finitePose p) 7 ∷ unlessOf (isTurn (rotationOf p)) 8 ∷ armRefusal a ∷ [] in
       accepted-after a sized three to
       (ltb-true 0 (a .«link_count») (holds-in ks e (ltb 0 (a .«link_count»)) 3 (inr (inl refl))))
-      (holds-in ks e (rootFinite to) 6 (inr (inr (inl refl))))
+      (holds-in ks e (finitePose p) 6 (inr (inr (inl refl))))
       (is-lowest ks .none e (armRefusal a) (inr (inr (inr (inr (inl refl))))))
 
   new-sized : length (rootChanged a to .links) ≡ linkLimit

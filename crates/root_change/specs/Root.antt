@@ -1,18 +1,18 @@
 -- The root change (`update_root_type`), by a value that says free or fixed, and at which pose; then the full working.
 use Prim.Native.Nat.{ℕ, _-_}
-use mathlib.Core.Bool.{Bool, cond}
+use mathlib.Core.Bool.{cond}
 use mathlib.Core.List.{List, [], _∷_, _++_, map}
-use lib.Dec.{eqb, ltb}
-use lib.ListN.{take, drop, replicate}
+use lib.Dec.{eqb}
+use lib.ListN.{take, drop}
 use lib.Ieee.{Float}
-use Rattle.arm.specs.Arm.{linkAt}
+use Rattle.arm.specs.Arm.{isLink, linkAt}
 use Rattle.lists.specs.Lists.{modify}
 use Rattle.limits.specs.Limits.{dofLimit}
 use Rattle.refusal.specs.Refusal.{unlessOf, lowest}
-use Rattle.floats.specs.Floats.{zero32}
+use Rattle.planar.specs.declared.Pose.{Pose}
 use Rattle.planar.specs.Poses.{rotationOf, isTurn, finitePose}
 use Rattle.multibody_joint.specs.declared.Joint.{Joint}
-use Rattle.multibody_joint.specs.Joint.{withFrames, freeJoint, fixedJoint, freePosSet}
+use Rattle.multibody_joint.specs.Joint.{zeros, withFrames, freeJoint, fixedJoint, freePosSet}
 use Rattle.arm.specs.declared.Link.{Link}
 use Rattle.arm.specs.declared.Row.{Row}
 use Rattle.arm.specs.declared.Arm.{Arm}
@@ -29,6 +29,11 @@ abbrev pub lockedBy : Root → ℕ
 lockedBy (Free p) = 0
 lockedBy (Fixed p) = 7
 
+-- the pose that it becomes so at
+abbrev pub rootPose : Root → Pose
+rootPose (Free p) = p
+rootPose (Fixed p) = p
+
 -- the same type: a free joint's position is set, or a fixed one's frame 1; another: a free or a fixed joint comes in at the pose
 unfoldable pub rootJoint : Root → Joint → Joint
 rootJoint (Free p) j = cond (eqb (j .locked) 0) (freePosSet j p) (freeJoint p)
@@ -42,11 +47,11 @@ rootLink root l = withJoint l (rootJoint root (l .joint))
 
 -- three zeros come in front; what falls off behind is past every DoF
 unfoldable pub widened : Row → Row
-widened row = record { entries = replicate 3 zero32 ++ take (dofLimit - 3) (row .entries) }
+widened row = record { entries = zeros ++ take (dofLimit - 3) (row .entries) }
 
 -- the first three go; +0 comes in behind, past every DoF
 unfoldable pub narrowed : Row → Row
-narrowed row = record { entries = drop 3 (row .entries) ++ replicate 3 zero32 }
+narrowed row = record { entries = drop 3 (row .entries) ++ zeros }
 
 -- from one type to another; the same type leaves it
 unfoldable pub rootRow : ℕ → ℕ → Row → Row
@@ -66,23 +71,13 @@ unfoldable pub rootChanged : Arm → Root → Arm
 rootChanged a root =
     armWith a (a .«link_count») (a .«coupling_count») (modify (rootLink root) 0 (a .links)) (a .couplings) (rootRows a root)
 
--- 7: what is given is finite
-abbrev pub rootFinite : Root → Bool
-rootFinite (Free p) = finitePose p
-rootFinite (Fixed p) = finitePose p
-
--- 8: its rotation is a turn
-abbrev pub rootTurns : Root → Bool
-rootTurns (Free p) = isTurn (rotationOf p)
-rootTurns (Fixed p) = isTurn (rotationOf p)
-
 unfoldable pub rootRefusal : Arm → List Float → Root → ℕ
 rootRefusal a t root =
     lowest
     (unlessOf (tablesFit t) 1
-    ∷ unlessOf (ltb 0 (a .«link_count»)) 4
-    ∷ unlessOf (rootFinite root) 7
-    ∷ unlessOf (rootTurns root) 8
+    ∷ unlessOf (isLink a 0) 4
+    ∷ unlessOf (finitePose (rootPose root)) 7
+    ∷ unlessOf (isTurn (rotationOf (rootPose root))) 8
     ∷ armRefusal a
     ∷ [])
 

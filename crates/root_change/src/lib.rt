@@ -2,7 +2,7 @@
 ghost use mathlib.Core.Path.{_≡_};
 ghost use Rattle.full_working.specs.Outcome.{out};
 ghost use Rattle.root_change.specs.declared.Root.the-variants.{Free, Fixed};
-ghost use Rattle.root_change.specs.Root.{lockedBy, rootJoint, rootLink, widened, narrowed, rootRow, rootRows, rootChanged, rootFinite, rootTurns, rootRefusal, changedRoot};
+ghost use Rattle.root_change.specs.Root.{lockedBy, rootPose, rootJoint, rootLink, widened, narrowed, rootRow, rootRows, rootChanged, rootRefusal, changedRoot};
 use arm::Arm;
 use arm::Edited;
 use arm::Link;
@@ -44,8 +44,18 @@ fn locked_by(root: Root) -> u8
     }
 }
 
+// The pose that it becomes so at.
+fn root_pose(root: Root) -> Pose
+    ensures { λ r. ⌜ r ≡ rootPose root ⌝ }
+{
+    match root {
+        Root::Free(pose) => pose,
+        Root::Fixed(pose) => pose,
+    }
+}
+
 // Of the same type, a free joint's position is set.
-fn free_joint(j: Joint, pose: Pose) -> Joint
+fn freed(j: Joint, pose: Pose) -> Joint
     ensures { λ r. ⌜ r ≡ rootJoint (Free pose) j ⌝ }
 {
     if j.locked == 0 {
@@ -55,7 +65,7 @@ fn free_joint(j: Joint, pose: Pose) -> Joint
 }
 
 // Of the same type, a fixed joint's frame 1 is set.
-fn fixed_joint(j: Joint, pose: Pose) -> Joint
+fn fixed_at(j: Joint, pose: Pose) -> Joint
     ensures { λ r. ⌜ r ≡ rootJoint (Fixed pose) j ⌝ }
 {
     if j.locked == 7 {
@@ -68,8 +78,8 @@ fn root_joint(j: Joint, root: Root) -> Joint
     ensures { λ r. ⌜ r ≡ rootJoint root j ⌝ }
 {
     match root {
-        Root::Free(pose) => free_joint(j, pose),
-        Root::Fixed(pose) => fixed_joint(j, pose),
+        Root::Free(pose) => freed(j, pose),
+        Root::Fixed(pose) => fixed_at(j, pose),
     }
 }
 
@@ -152,32 +162,15 @@ fn root_changed(arm: Arm, root: Root) -> Arm
     )
 }
 
-fn is_finite_root(root: Root) -> bool
-    ensures { λ r. ⌜ r ≡ rootFinite root ⌝ }
-{
-    match root {
-        Root::Free(pose) => is_finite_pose(pose),
-        Root::Fixed(pose) => is_finite_pose(pose),
-    }
-}
-
-fn turn_fits(root: Root) -> bool
-    ensures { λ r. ⌜ r ≡ rootTurns root ⌝ }
-{
-    match root {
-        Root::Free(pose) => is_turn(rotation_of(pose)),
-        Root::Fixed(pose) => is_turn(rotation_of(pose)),
-    }
-}
-
 fn root_refusal(arm: Arm, tables: &[f32], root: Root) -> u8
     ensures { λ r. ⌜ r ≡ rootRefusal arm (now (tables .entry)) root ⌝ }
 {
+    let pose = root_pose(root);
     let refusals = [
         unless(tables_fit(tables), 1),
         unless(0 < arm.link_count, 4),
-        unless(is_finite_root(root), 7),
-        unless(turn_fits(root), 8),
+        unless(is_finite_pose(pose), 7),
+        unless(is_turn(rotation_of(pose)), 8),
         arm_refusal(arm),
     ];
     lowest(&refusals)

@@ -128,7 +128,7 @@ pub fn at_or_below(parents: &[u8], link: usize) -> [bool; LINKS]
 // ---- the split
 
 // What stands for part and number of the deleted link.
-const GONE: u8 = 255;
+pub const GONE: u8 = 255;
 
 fn link_of(s: Split) -> usize
     ensures { λ r. ⌜ r ≡ linkOf s ⌝ }

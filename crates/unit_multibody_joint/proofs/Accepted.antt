@@ -1,5 +1,5 @@
 -- What an accepted row knows: its memories and its mass matrix fit, and the DoF lies within the count. Assumes nothing.
-use Prim.Native.Nat.{ℕ, suc, min, _*_, _≤_, _<_}
+use Prim.Native.Nat.{ℕ, suc, _*_, _≤_, _<_}
 use mathlib.Core.Path.{_≡_, refl}
 use mathlib.Core.Bool.{Bool, true, _&&_}
 use mathlib.Core.Logic.{inl, inr}
@@ -21,7 +21,6 @@ use Rattle.arm.proofs.Accepted.{there, live}
 use Rattle.arm.proofs.Edits.{dof-within}
 use Rattle.arm.proofs.Live.{dof-count-le}
 use Rattle.unit_multibody_joint.specs.Refusals.{memoryFits, rowEntries, rowRefusal}
-use Rattle.unit_multibody_joint.proofs.Rows.{dof-byte}
 
 -- the needed lengths
 pub record Fits (n : ℕ) (mass : List Float) (j wj : ℕ) : Type 0 where
@@ -50,9 +49,9 @@ module _ (a : Arm) (link axis : ℕ) (fine ordered : Bool) (mass : List Float) (
       let known = there a link (passes (isLink a link) 3 (inr (inl refl))) armed in
       dof-within a link axis w (live a link known) (passes (isFree (maskAt a link) axis) 5 (inr (inr (inr (inl refl)))))
 
-  -- as the code has them: n the DoF count, x the axis as a byte, dof its DoF
-  pub row-ready : (n x dof : ℕ) → n ≡ dofCountOf a → x ≡ min axis 3 → dof ≡ dofAt a link x → length (a .links) ≡ linkLimit
+  -- as the code has them: n the DoF count, dof the axis' DoF
+  pub row-ready : (n dof : ℕ) → n ≡ dofCountOf a → dof ≡ dofAt a link axis → length (a .links) ≡ linkLimit
       → (n ≤ dofLimit) × (dof < n) × (n * n ≤ length mass) × (n ≤ j) × (n ≤ wj)
-  row-ready n x dof en ex ed w =
+  row-ready n dof en ed w =
       let f = row-fits in
-      rw (en, ed, dof-byte a link axis x ex) (dof-count-le a, row-dof w, f .matrix, f .j-room, f .wj-room)
+      rw (en, ed) (dof-count-le a, row-dof w, f .matrix, f .j-room, f .wj-room)

@@ -1,23 +1,20 @@
--- J of one degree of freedom; a row's entries up to the DoF count; an axis as a byte. Assumes nothing.
-use Prim.Native.Nat.{ℕ, zero, suc, min, _+_, _-_, _≤_, _<_}
+-- J of one degree of freedom; a row's entries up to the DoF count. Assumes nothing.
+use Prim.Native.Nat.{ℕ, zero, suc, _-_, _≤_, _<_}
 use mathlib.Core.Path.{_≡_, refl, sym, ap, _∙_}
 use mathlib.Core.List.{List, [], _∷_}
 use native.Mathlib.Omega.{arith}
 use native.Mathlib.Nat.{sub-zero}
-use native.Mathlib.Decide.{decLt}
 use lib.ListN.{length, take, getD, set, replicate, length-replicate, length-set}
 use lib.Seq.{take-set-lt}
 use lib.Ieee.{Float}
 use Rattle.lists.proofs.Lists.{map-at}
 use Rattle.limits.specs.Limits.{dofLimit}
 use Rattle.floats.specs.Floats.{zero32, one32, entryOf}
-use Rattle.masks.specs.Masks.{isFree, dofsBelow, dofsOf}
-use Rattle.masks.proofs.Laws.{no-axis, below-past}
 use Rattle.arm.specs.declared.Arm.{Arm}
 use Rattle.arm.specs.declared.Row.{Row}
 use Rattle.arm.specs.declared.RowName.{RowName}
 use Rattle.arm.specs.declared.RowName.the-variants.{Frictions}
-use Rattle.arm.specs.Arm.{dofCountOf, rowNumber, entriesOf, entriesTo, rowsOf, maskAt, startAt}
+use Rattle.arm.specs.Arm.{dofCountOf, rowNumber, entriesOf, entriesTo, rowsOf}
 use Rattle.arm.specs.Sized.{Sized}
 use Rattle.arm.specs.Edits.{dofAt}
 use Rattle.arm.proofs.Edits.{row-there}
@@ -57,29 +54,10 @@ unfolding rowsOf
 row-front a name d n k w p q =
     rw (p, q) (sym (map-at (entriesTo (dofCountOf a)) (a .rows) (rowNumber name) d [] (omega (arith, row-there name))))
 
--- ---- an axis as a byte, 3 for all that are none
-
-pub free-byte : (m axis x : ℕ) → x ≡ min axis 3 → isFree m x ≡ isFree m axis
-free-byte m axis x e = elim (decLt axis 3) [
-  | yes l ↦ let z : x ≡ axis = omega arith in rw z
-  | no l ↦ no-axis m x (omega arith) ∙ sym (no-axis m axis (omega arith))
-]
-
-below-byte : (m axis x : ℕ) → x ≡ min axis 3 → dofsBelow m x ≡ dofsBelow m axis
-unfolding dofsOf
-below-byte m zero x e = rw e
-below-byte m (suc zero) x e = rw e
-below-byte m (suc (suc zero)) x e = rw e
-below-byte m (suc (suc (suc axis))) x e = let z : x ≡ 3 = omega arith in rw z (sym (below-past m axis))
-
-pub dof-byte : (a : Arm) (link axis x : ℕ) → x ≡ min axis 3 → dofAt a link x ≡ dofAt a link axis
-unfolding dofAt
-dof-byte a link axis x e = ap (λ (k : ℕ). startAt a link + k) (below-byte (maskAt a link) axis x e)
-
 -- ---- the friction of a link's axis
 
-pub friction-is : (a : Arm) (link axis : ℕ) (d : Row) (n k x at : ℕ) → length (a .rows) ≡ 5 → n ≡ dofCountOf a → k ≡ rowNumber Frictions → x ≡ min axis 3
-    → at ≡ dofAt a link x → entryOf (take (n - 0) (getD (a .rows) k d .entries)) at ≡ frictionAt a link axis
+pub friction-is : (a : Arm) (link axis : ℕ) (d : Row) (n k at : ℕ) → length (a .rows) ≡ 5 → n ≡ dofCountOf a → k ≡ rowNumber Frictions
+    → at ≡ dofAt a link axis → entryOf (take (n - 0) (getD (a .rows) k d .entries)) at ≡ frictionAt a link axis
 unfolding frictionAt
-friction-is a link axis d n k x at w p q e f =
-    rw sub-zero (ap (λ (row : List Float). entryOf row at) (row-front a Frictions d n k w p q) ∙ ap (entryOf (rowUpTo a Frictions)) (f ∙ dof-byte a link axis x e))
+friction-is a link axis d n k at w p q f =
+    rw sub-zero (ap (λ (row : List Float). entryOf row at) (row-front a Frictions d n k w p q) ∙ ap (entryOf (rowUpTo a Frictions)) f)

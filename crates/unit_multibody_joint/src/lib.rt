@@ -1,7 +1,7 @@
 // The constraint rows of one degree of freedom: its limit and its friction. Both are entry points: links and axes are any numbers, the arm handed in
 // is tested, and the lowest refusal of all is given. A refusal leaves all lent memory as it was.
 ghost use mathlib.Core.Path.{_≡_};
-ghost use Prim.Native.Nat.{min, _*_, _<_, _≤_};
+ghost use Prim.Native.Nat.{_*_, _<_, _≤_};
 ghost use lib.ListN.{length};
 ghost use Rattle.limits.specs.Limits.{dofLimit};
 ghost use Rattle.unit_multibody_joint.specs.Outcome.{out};
@@ -210,13 +210,6 @@ fn are_finite_limits(given: Limits) -> bool
     all_finite(&values)
 }
 
-// An axis as a byte; 3 stands for all that are none.
-fn axis_byte(axis: u32) -> u8
-    ensures { λ r. ⌜ r ≡ min axis 3 ⌝ }
-{
-    if is_axis(axis) { axis as u8 } else { 3 }
-}
-
 // The rules that both rows share, where `fine` says that the floats given are finite and `ordered` that their bounds are no reversed pair.
 fn row_refusal(
     arm: Arm,
@@ -236,7 +229,7 @@ fn row_refusal(
         unless(memory_fits(n, mass, j_room, wj_room), 1),
         unless((link as usize) < arm.link_count, 4),
         unless(is_axis(axis), 5),
-        unless(is_free(mask, axis_byte(axis)), 6),
+        unless(is_free(mask, axis), 6),
         unless(fine & is_finite_part(mass, 0, n * n), 7),
         unless(ordered, 10),
         arm_refusal(arm),
@@ -252,7 +245,7 @@ fn friction_at(arm: Arm, link: u32, axis: u32) -> f32
     let row = arm.rows[k];
     let entries = row.entries;
     let n = dof_count(arm);
-    let at = dof_at(arm, link as usize, axis_byte(axis));
+    let at = dof_at(arm, link as usize, axis);
     entry(&entries[0..n], at)
 }
 
@@ -278,7 +271,7 @@ fn axis_row(
         return refused_row(refusal);
     }
     let n = dof_count(arm);
-    let at = dof_at(arm, link as usize, axis_byte(axis));
+    let at = dof_at(arm, link as usize, axis);
     let mut unit = [0.0f32; DOFS];
     unit[at] = 1.0;
     constrain(&unit[0..n], at, b, cfm_coeff, mass, j, wj)

@@ -2,13 +2,13 @@
 ghost use mathlib.Core.Path.{_≡_};
 ghost use Rattle.whole_step.specs.Inner.{stepTestsOf};
 ghost use Rattle.full_working.specs.Outcome.{out};
-ghost use Rattle.arm.specs.HandedIn.{angleFits};
 ghost use Rattle.whole_step.specs.Step.{linkIntegrated, linksAfter, armAfter, stepRefusal, wholeStep};
 use arm::Arm;
 use arm::Edited;
 use arm::Link;
 use arm::Row;
 use arm::RowName;
+use arm::angle_fits;
 use arm::arm_refusal;
 use arm::is_finite_joint;
 use arm::live_links;
@@ -20,9 +20,7 @@ use full_working::tables_fit;
 use full_working::work_all;
 use limits::LINKS;
 use masks::dofs;
-use multibody_joint::Joint;
 use multibody_joint::integrate;
-use planar::is_beyond;
 use refusal::lowest;
 use refusal::unless;
 
@@ -68,13 +66,6 @@ fn step_arm(arm: Arm, dt: f32) -> Arm
 struct StepTests {
     angles: bool,
     floats: bool,
-}
-
-fn angle_fits(j: Joint) -> bool
-    ensures { λ r. ⌜ r ≡ angleFits j ⌝ }
-{
-    let coordinates = j.coordinates;
-    !is_beyond(coordinates[2])
 }
 
 fn step_tests(arm: Arm) -> StepTests

@@ -8,7 +8,7 @@ use Rattle.arm.proofs.Shape.{links-length}
 use Rattle.full_working.proofs.Refused.{refused}
 use Rattle.addition.specs.Inner.{Small}
 use Rattle.addition.specs.Addition.{linkAdded}
-use Rattle.addition.proofs.Placed.{placed-off, placed-on, start-fits}
+use Rattle.addition.proofs.Placed.{Ends, ends, start-fits}
 use Rattle.addition.proofs.Tests.{Passed, passed, small}
 use borrow.Author.Needs.{needs}
 use Rattle.addition.proofs.add_link.Statement.{statement}
@@ -55,6 +55,20 @@ room c =
     start-fits (s .args .arm) (links-length (s .args .arm) (s .good .0)) (s .args .tables .now) (s .args .new) _ (ok .before .add-refusal .ensures) (ok .if1 .left)
     (h .handed-in .result) (h .handed-in .ensures) (c .start-among .result) (c .start-among .ensures)
 
+-- both ends, seen from where the link was worked out
+ended : (c : tie.After-refresh-one) → let at = started (linked (above c)) in let own = start (accepted at) .args in
+    Ends (own .arm) (own .tables .now) (own .new) (at .start-among .result) (c .refresh-one .result) (c .refresh-one .last .1 .1 .1 .1 .0)
+ended c =
+    let p = above c in
+    let new = linked p in
+    let at = started new in
+    let ok = accepted at in
+    let h = handed (ok .before) in
+    let s = start ok in
+    ends (s .args .arm) (links-length (s .args .arm) (s .good .0)) (s .args .tables .now) (s .args .new) _ (ok .before .add-refusal .ensures) (ok .if1 .left)
+    (h .handed-in .result) (h .handed-in .ensures) (at .start-among .result) (at .start-among .ensures) (new .link-of .result) _ _ (new .link-of .ensures)
+    (p .fewer .result) (p .fewer .ensures) refl (c .refresh-one .result) _ (c .refresh-one .ensures)
+
 -- ---- the answers
 
 handed-in-requires : tie.Need-handed-in-requires
@@ -97,18 +111,7 @@ same-length-2 c = search needs
 returns-2 : tie.Need-returns-2
 returns-2 c =
     let turn : tie.After-refresh-one = search in
-    let p = above turn in
-    let new = linked p in
-    let at = started new in
-    let ok = accepted at in
-    let h = handed (ok .before) in
-    let s = start ok in
-    placed-off (s .args .arm) (links-length (s .args .arm) (s .good .0)) (s .args .tables .now) (s .args .new) _ (ok .before .add-refusal .ensures)
-    (ok .if1 .left)
-    (h .handed-in .result) (h .handed-in .ensures) (at .start-among .result) (at .start-among .ensures) (new .link-of .result) _ _
-    (new .link-of .ensures)
-    (p .fewer .result) (p .fewer .ensures) refl (turn .refresh-one .result) _ (turn .refresh-one .ensures)
-    (not-true (turn .refresh-one .result .fine) (c .if2 .taken))
+    ended turn .off (not-true (turn .refresh-one .result .fine) (c .if2 .taken))
 
 mul-links : tie.Need-mul-links
 mul-links c = omega (arith, through (accepted (started (linked (above (turned (c .before)))))) .room)
@@ -140,21 +143,8 @@ same-length-3 c = search needs
 returns-3 : tie.Need-returns-3
 returns-3 c =
     let fine : tie.Else2 = search in
-    let turn = turned fine in
-    let p = above turn in
-    let new = linked p in
-    let at = started new in
-    let ok = accepted at in
-    let h = handed (ok .before) in
-    let s = start ok in
     rw (c .arm-with .ensures)
-    (placed-on (s .args .arm) (links-length (s .args .arm) (s .good .0)) (s .args .tables .now) (s .args .new) _ (ok .before .add-refusal .ensures)
-    (ok .if1 .left)
-    (h .handed-in .result) (h .handed-in .ensures) (at .start-among .result) (at .start-among .ensures) (new .link-of .result) _ _
-    (new .link-of .ensures)
-    (p .fewer .result) (p .fewer .ensures) refl (turn .refresh-one .result) _ (turn .refresh-one .ensures)
-    (not-false (turn .refresh-one .result .fine) (fine .if2 .left))
-    _ (c .before .with-new-entries .ensures) _ refl)
+    (ended (turned fine) .on (not-false (turned fine .refresh-one .result .fine) (fine .if2 .left)) _ (c .before .with-new-entries .ensures))
 
 pub add-link-spec : {M : Type 1} → statement M
 add-link-spec =

@@ -1,7 +1,8 @@
 -- `with_new_entries`: the first i rows have their zeros; then the damping row has its own. Assumes nothing.
 use Rattle.lists.proofs.Lists.{filled-more, map-at}
 use Rattle.addition.proofs.Entries.{rows-with}
-use Rattle.addition.specs.NewLink.{entriesSet, zeros}
+use Rattle.multibody_joint.specs.Joint.{zeros}
+use Rattle.addition.specs.NewLink.{entriesSet}
 use Prim.Native.Nat.{_-_, _≤_}
 use mathlib.Core.Path.{_∙_, _≡_, refl, sym}
 use native.Mathlib.Omega.{arith}

@@ -7,7 +7,7 @@ use Rattle.arm.specs.Arm.{liveLinks}
 use Rattle.arm.proofs.Accepted.{live}
 use Rattle.arm.proofs.Edits.{edited-none, edited-some}
 use Rattle.arm_edits.specs.Springs.{springRefusal, armSpringSet}
-use Rattle.arm_edits.proofs.Accepted.{set-spring-axis, set-spring-there}
+use Rattle.arm_edits.proofs.Accepted.{set-spring-there}
 use Rattle.arm_edits.proofs.Stores.{spring-stored}
 use Rattle.arm_edits.proofs.set_spring.Statement.{statement}
 use Rattle.arm_edits.proofs.set_spring.Tie as tie
@@ -40,11 +40,6 @@ mul-l c = omega (arith, in-array c)
 element-copy-out-l : tie.Need-element-copy-out-l
 element-copy-out-l c = omega (arith, in-array c)
 
-cast-with-spring : tie.Need-cast-with-spring
-cast-with-spring c =
-    let given = start (c .before) .args in
-    omega (arith, set-spring-axis (given .t1) (given .link) (given .axis) (given .spring) (unrefused (c .before)))
-
 with-spring-requires : tie.Need-with-spring-requires
 with-spring-requires c κs = search needs
 
@@ -70,7 +65,6 @@ set-spring-spec =
     returns
     mul-l
     element-copy-out-l
-    cast-with-spring
     with-spring-requires
     mul-t13
     element-set-from-new

@@ -18,8 +18,8 @@ is-axis-requires c κs = search needs
 unless-requires-2 : tie.Need-unless-requires-2
 unless-requires-2 c κs = search needs
 
-axis-is-free-requires : tie.Need-axis-is-free-requires
-axis-is-free-requires c κs = search needs
+is-free-requires : tie.Need-is-free-requires
+is-free-requires c κs = search needs
 
 unless-requires-3 : tie.Need-unless-requires-3
 unless-requires-3 c κs = search needs
@@ -52,7 +52,7 @@ write-refusal-spec =
     unless-requires
     is-axis-requires
     unless-requires-2
-    axis-is-free-requires
+    is-free-requires
     unless-requires-3
     finite-requires
     unless-requires-4

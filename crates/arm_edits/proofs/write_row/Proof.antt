@@ -17,7 +17,7 @@ use Rattle.arm.proofs.Accepted.{live}
 use Rattle.arm.proofs.Edits.{edited-none, edited-some, row-there, dof-in-row}
 use Rattle.arm.proofs.Shape.{links-length}
 use Rattle.arm_edits.specs.Rows.{writeRefusal, rowWritten}
-use Rattle.arm_edits.proofs.Accepted.{write-axis, write-free, write-there}
+use Rattle.arm_edits.proofs.Accepted.{write-free, write-there}
 use Rattle.arm_edits.proofs.Stores.{entry-stored}
 use Rattle.arm_edits.proofs.write_row.Statement.{statement}
 use Rattle.arm_edits.proofs.write_row.Tie as tie
@@ -64,11 +64,6 @@ handed-in-requires c κs = search needs
 
 write-refusal-requires : tie.Need-write-refusal-requires
 write-refusal-requires c κs = search needs
-
-cast-dof-among : tie.Need-cast-dof-among
-cast-dof-among c =
-    let given = start (c .before) .args in
-    omega (arith, write-axis (given .arm) (given .link) (given .axis) (given .value) (unrefused (c .before)))
 
 dof-among-requires : tie.Need-dof-among-requires
 dof-among-requires c κs = search needs
@@ -130,7 +125,6 @@ write-row-spec =
     (tie.spec
     handed-in-requires
     write-refusal-requires
-    cast-dof-among
     dof-among-requires
     row-number-requires
     mul-row

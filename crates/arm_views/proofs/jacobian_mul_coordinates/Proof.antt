@@ -6,7 +6,8 @@ use borrow.Author.Needs.{needs}
 use Rattle.arm.specs.Arm.{liveLinks}
 use Rattle.arm.proofs.Accepted.{live}
 use Rattle.arm.proofs.Shape.{links-length}
-use Rattle.arm_views.specs.Links.{axesIn, mulAnswer, zeros}
+use Rattle.multibody_joint.specs.Joint.{zeros}
+use Rattle.arm_views.specs.Links.{axesIn, mulAnswer}
 use Rattle.arm_views.proofs.Accepted.{mul-there}
 use Rattle.arm_views.proofs.Answers.{axes-none, axes-some, of-link}
 use Rattle.arm_views.proofs.jacobian_mul_coordinates.Statement.{statement}

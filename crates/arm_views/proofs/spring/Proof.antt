@@ -7,7 +7,7 @@ use Rattle.arm.specs.Arm.{liveLinks}
 use Rattle.arm.proofs.Accepted.{live}
 use Rattle.arm.proofs.Shape.{links-length}
 use Rattle.arm_views.specs.Links.{noSpring, springRefusal, springAnswer, springIn}
-use Rattle.arm_views.proofs.Accepted.{spring-axis, spring-there}
+use Rattle.arm_views.proofs.Accepted.{spring-there}
 use Rattle.arm_views.proofs.Answers.{of-link, spring-none, spring-some}
 use Rattle.arm_views.proofs.spring.Statement.{statement}
 use Rattle.arm_views.proofs.spring.Tie as tie
@@ -39,11 +39,6 @@ mul-l c = omega (arith, in-array c)
 element-copy-out-l : tie.Need-element-copy-out-l
 element-copy-out-l c = omega (arith, in-array c)
 
-cast-spring-of : tie.Need-cast-spring-of
-cast-spring-of c =
-    let given = start (c .before) .args in
-    omega (arith, spring-axis (given .t1) (given .link) (given .axis) (unrefused (c .before)))
-
 spring-of-requires : tie.Need-spring-of-requires
 spring-of-requires c κs = search needs
 
@@ -64,6 +59,5 @@ spring-spec =
     returns
     mul-l
     element-copy-out-l
-    cast-spring-of
     spring-of-requires
     returns-2)

@@ -2,7 +2,6 @@
 use borrow.Author.Needs.{needs}
 use mathlib.Core.Path.{ap}
 use Rattle.arm.specs.declared.Arm.{Arm}
-use Rattle.arm.specs.declared.Edited.{Edited}
 use Rattle.full_working.specs.Outcome.{workedBy}
 use Rattle.full_working.proofs.worked.Statement.{statement}
 use Rattle.full_working.proofs.worked.Tie as tie

@@ -10,8 +10,8 @@ enum-known-change c = search needs
 is-axis-requires : tie.Need-is-axis-requires
 is-axis-requires c κs = search needs
 
-is-free-axis-requires : tie.Need-is-free-axis-requires
-is-free-axis-requires c κs = search needs
+is-free-requires : tie.Need-is-free-requires
+is-free-requires c κs = search needs
 
 finite-requires : tie.Need-finite-requires
 finite-requires c κs = search needs
@@ -68,7 +68,7 @@ change-tests-spec =
     (tie.spec
     enum-known-change
     is-axis-requires
-    is-free-axis-requires
+    is-free-requires
     finite-requires
     is-beyond-requires
     enum-known-change-2

@@ -1,11 +1,13 @@
 -- `move_link`: a refusal, or the link worked out alone or with those below it. Assumes nothing.
 use Rattle.one_link_move.proofs.Move.{within-limit}
-use Rattle.one_link_move.proofs.Moved.{alone-off, alone-on, below-off, below-on}
+use Rattle.one_link_move.proofs.Moved.{Ends, alone-ends, below-ends}
 use Rattle.one_link_move.specs.Move.{linkMoved}
 use borrow.Author.Tests.{not-false, not-true}
 use mathlib.Core.Path.{_∙_, ap, refl, sym}
 use native.Mathlib.Omega.{arith}
 use Rattle.arm.specs.declared.Edited.{Edited}
+use Rattle.arm.specs.Arm.{linkAt}
+use lib.ListN.{set}
 use Rattle.arm.proofs.Shape.{links-length}
 use Rattle.full_working.specs.Outcome.{out}
 use Rattle.full_working.proofs.Refused.{refused}
@@ -29,9 +31,45 @@ within c =
     within-limit (begun c .args .arm) (begun c .args .tables .now) (begun c .args .link) (begun c .args .change)
     (sym (asked c .move-refusal .ensures) ∙ c .if1 .left)
 
--- where it was accepted, seen from where a leaf was worked out
+-- where it was accepted, seen from where a leaf was worked out, or the link and those below it
 abbrev accepted-leaf : tie.After-refresh-one → tie.Else1
 accepted-leaf c = search
+
+abbrev accepted-tree : tie.After-refresh-marked → tie.Else1
+accepted-tree c = search
+
+alone : (c : tie.After-refresh-one) → let own = begun (accepted-leaf c) .args in let r = c .refresh-one in
+    Ends (own .arm) (r .result .fine) (set (own .arm .links) (own .link) (r .result .link)) (own .arm .links) (r .last .1 .1 .1 .1 .0)
+    (linkMoved (own .arm) (own .tables .now) (own .link) (own .change))
+alone c =
+    let at-start-among : tie.After-start-among = search in
+    let at-fewer : tie.After-fewer = search in
+    let leaf : tie.Then2 = search in
+    let at-is-leaf : tie.After-is-leaf = search in
+    let at-with-change : tie.After-with-change = search in
+    let accepted = accepted-leaf c in
+    let at-handed-in : tie.After-handed-in = search in
+    let start = begun accepted in
+    alone-ends (start .args .arm) (links-length (start .args .arm) (start .good .0)) (start .args .tables .now) (start .args .link)
+    (start .args .change) _ (asked accepted .move-refusal .ensures) (accepted .if1 .left) (at-handed-in .handed-in .result)
+    (at-handed-in .handed-in .ensures) _ (at-with-change .with-change .result) (at-with-change .with-change .ensures)
+    (sym (at-is-leaf .is-leaf .ensures) ∙ leaf .if2 .taken) (at-fewer .fewer .result) (at-fewer .fewer .ensures) _ _ refl
+    (at-start-among .start-among .result) (at-start-among .start-among .ensures) (c .refresh-one .result) _ (c .refresh-one .ensures)
+
+below : (c : tie.After-refresh-marked) → let own = begun (accepted-tree c) .args in let r = c .refresh-marked in
+    let new : tie.After-with-change = search in
+    Ends (own .arm) (r .result .fine) (r .result .links) (set (set (own .arm .links) (own .link) (new .with-change .result)) (own .link) (linkAt (own .arm .links) (own .link)))
+    (r .last .1 .1 .1 .0) (linkMoved (own .arm) (own .tables .now) (own .link) (own .change))
+below c =
+    let at-marks-among : tie.After-marks-among = search in
+    let at-with-change : tie.After-with-change = search in
+    let accepted = accepted-tree c in
+    let at-handed-in : tie.After-handed-in = search in
+    let start = begun accepted in
+    below-ends (start .args .arm) (links-length (start .args .arm) (start .good .0)) (start .args .tables .now) (start .args .link)
+    (start .args .change) _ (asked accepted .move-refusal .ensures) (accepted .if1 .left) (at-handed-in .handed-in .result)
+    (at-handed-in .handed-in .ensures) _ (at-with-change .with-change .result) (at-with-change .with-change .ensures)
+    (at-marks-among .marks-among .result) (at-marks-among .marks-among .ensures) (c .refresh-marked .result) _ (c .refresh-marked .ensures)
 
 handed-in-requires : tie.Need-handed-in-requires
 handed-in-requires c κs = search needs
@@ -95,23 +133,8 @@ same-length-2 c = search needs
 
 returns-2 : tie.Need-returns-2
 returns-2 c =
-    let at-refresh-one : tie.After-refresh-one = search in
-    let at-start-among : tie.After-start-among = search in
-    let at-fewer : tie.After-fewer = search in
-    let leaf : tie.Then2 = search in
-    let at-is-leaf : tie.After-is-leaf = search in
-    let at-with-change : tie.After-with-change = search in
-    let accepted : tie.Else1 = search in
-    let at-move-refusal : tie.After-move-refusal = search in
-    let at-handed-in : tie.After-handed-in = search in
-    let start : tie.Start = search in
-    alone-off (start .args .arm) (links-length (start .args .arm) (start .good .0)) (start .args .tables .now) (start .args .link)
-    (start .args .change) _ (at-move-refusal .move-refusal .ensures) (accepted .if1 .left) (at-handed-in .handed-in .result)
-    (at-handed-in .handed-in .ensures) _ (at-with-change .with-change .result) (at-with-change .with-change .ensures)
-    (sym (at-is-leaf .is-leaf .ensures) ∙ leaf .if2 .taken) (at-fewer .fewer .result) (at-fewer .fewer .ensures) _ _ refl
-    (at-start-among .start-among .result) (at-start-among .start-among .ensures) (at-refresh-one .refresh-one .result) _
-    (at-refresh-one .refresh-one .ensures)
-    (not-true (at-refresh-one .refresh-one .result .fine) (c .before .if3 .taken)) _ (c .answer2 .ensures)
+    let turned : tie.After-refresh-one = search in
+    alone turned .off (not-true (turned .refresh-one .result .fine) (c .before .if3 .taken)) _ (c .answer2 .ensures)
 
 mul-links : tie.Need-mul-links
 mul-links c =
@@ -132,23 +155,8 @@ same-length-3 c = search needs
 returns-3 : tie.Need-returns-3
 returns-3 c =
     let is-fine : tie.Else3 = search in
-    let at-refresh-one : tie.After-refresh-one = search in
-    let at-start-among : tie.After-start-among = search in
-    let at-fewer : tie.After-fewer = search in
-    let leaf : tie.Then2 = search in
-    let at-is-leaf : tie.After-is-leaf = search in
-    let at-with-change : tie.After-with-change = search in
-    let accepted : tie.Else1 = search in
-    let at-move-refusal : tie.After-move-refusal = search in
-    let at-handed-in : tie.After-handed-in = search in
-    let start : tie.Start = search in
-    alone-on (start .args .arm) (links-length (start .args .arm) (start .good .0)) (start .args .tables .now) (start .args .link)
-    (start .args .change) _ (at-move-refusal .move-refusal .ensures) (accepted .if1 .left) (at-handed-in .handed-in .result)
-    (at-handed-in .handed-in .ensures) _ (at-with-change .with-change .result) (at-with-change .with-change .ensures)
-    (sym (at-is-leaf .is-leaf .ensures) ∙ leaf .if2 .taken) (at-fewer .fewer .result) (at-fewer .fewer .ensures) _ _ refl
-    (at-start-among .start-among .result) (at-start-among .start-among .ensures) (at-refresh-one .refresh-one .result) _
-    (at-refresh-one .refresh-one .ensures)
-    (not-false (at-refresh-one .refresh-one .result .fine) (is-fine .if3 .left)) _ (c .answer3 .ensures)
+    let turned : tie.After-refresh-one = search in
+    alone turned .on (not-false (turned .refresh-one .result .fine) (is-fine .if3 .left)) _ (c .answer3 .ensures)
 
 mul-links-2 : tie.Need-mul-links-2
 mul-links-2 c =
@@ -175,19 +183,8 @@ same-length-4 c = search needs
 returns-4 : tie.Need-returns-4
 returns-4 c =
     let is-fine : tie.Then4 = search in
-    let at-refresh-marked : tie.After-refresh-marked = search in
-    let at-marks-among : tie.After-marks-among = search in
-    let at-with-change : tie.After-with-change = search in
-    let accepted : tie.Else1 = search in
-    let at-move-refusal : tie.After-move-refusal = search in
-    let at-handed-in : tie.After-handed-in = search in
-    let start : tie.Start = search in
-    below-on (start .args .arm) (links-length (start .args .arm) (start .good .0)) (start .args .tables .now) (start .args .link)
-    (start .args .change) _ (at-move-refusal .move-refusal .ensures) (accepted .if1 .left) (at-handed-in .handed-in .result)
-    (at-handed-in .handed-in .ensures) _ (at-with-change .with-change .result) (at-with-change .with-change .ensures)
-    (at-marks-among .marks-among .result) (at-marks-among .marks-among .ensures) (at-refresh-marked .refresh-marked .result) _
-    (at-refresh-marked .refresh-marked .ensures)
-    (is-fine .if4 .taken) _ (c .answer4 .ensures)
+    let passed : tie.After-refresh-marked = search in
+    below passed .on (is-fine .if4 .taken) _ (c .answer4 .ensures)
 
 mul-links-3 : tie.Need-mul-links-3
 mul-links-3 c =
@@ -207,19 +204,8 @@ same-length-5 c = search needs
 
 returns-5 : tie.Need-returns-5
 returns-5 c =
-    let at-refresh-marked : tie.After-refresh-marked = search in
-    let at-marks-among : tie.After-marks-among = search in
-    let at-with-change : tie.After-with-change = search in
-    let accepted : tie.Else1 = search in
-    let at-move-refusal : tie.After-move-refusal = search in
-    let at-handed-in : tie.After-handed-in = search in
-    let start : tie.Start = search in
-    below-off (start .args .arm) (links-length (start .args .arm) (start .good .0)) (start .args .tables .now) (start .args .link)
-    (start .args .change) _ (at-move-refusal .move-refusal .ensures) (accepted .if1 .left) (at-handed-in .handed-in .result)
-    (at-handed-in .handed-in .ensures) _ (at-with-change .with-change .result) (at-with-change .with-change .ensures)
-    (at-marks-among .marks-among .result) (at-marks-among .marks-among .ensures) (at-refresh-marked .refresh-marked .result) _
-    (at-refresh-marked .refresh-marked .ensures)
-    (c .before .if4 .left) _ (c .answer5 .ensures)
+    let passed : tie.After-refresh-marked = search in
+    below passed .off (c .before .if4 .left) _ (c .answer5 .ensures)
 
 pub move-link-spec : {M : Type 1} → statement M
 move-link-spec =

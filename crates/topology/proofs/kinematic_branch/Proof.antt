@@ -1,5 +1,4 @@
 -- `kinematic_branch`: refused as defined, or the branch is written. Assumes nothing.
-use borrow.Author.Tests.{leb-true}
 use Rattle.topology.proofs.Refused.{accepted, branch-done, branch-refused}
 use borrow.Author.Tests.{leb-true}
 use borrow.Author.Needs.{needs}

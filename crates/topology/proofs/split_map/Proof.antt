@@ -1,5 +1,4 @@
 -- `split_map`: refused as defined, or the map is written. Assumes nothing.
-use borrow.Author.Tests.{leb-true}
 use Rattle.topology.proofs.Mapped.{map-to}
 use Rattle.topology.proofs.Refused.{split-accepted, split-done, split-refused}
 use borrow.Author.Tests.{leb-true}

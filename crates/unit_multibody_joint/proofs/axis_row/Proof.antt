@@ -11,7 +11,7 @@ use Rattle.unit_multibody_joint.specs.Rows.{rowAnswer}
 use Rattle.unit_multibody_joint.specs.Answers.{axisAnswer}
 use Rattle.unit_multibody_joint.proofs.Accepted.{row-ready}
 use Rattle.unit_multibody_joint.proofs.Answers.{refused-first}
-use Rattle.unit_multibody_joint.proofs.Rows.{dof-byte, unit-front, unit-on}
+use Rattle.unit_multibody_joint.proofs.Rows.{unit-front, unit-on}
 use borrow.Author.Needs.{needs}
 use Rattle.unit_multibody_joint.proofs.axis_row.Statement.{statement}
 use Rattle.unit_multibody_joint.proofs.axis_row.Tie as tie
@@ -31,31 +31,27 @@ returns c =
 dof-count-requires : tie.Need-dof-count-requires
 dof-count-requires c κs = search needs
 
-axis-byte-requires : tie.Need-axis-byte-requires
-axis-byte-requires c κs = search needs
-
 dof-at-requires : tie.Need-dof-at-requires
 dof-at-requires c κs = search needs
 
 -- what an accepted row knows
 abbrev start : tie.After-dof-at → tie.Start
-start c = let accepted : tie.Else1 = c .before .before .before in accepted .before .before .before .before .before
+start c = let accepted : tie.Else1 = c .before .before in accepted .before .before .before .before .before
 
 ready : (c : tie.After-dof-at)
-    → (c .before .before .dof-count .result ≤ dofLimit)
-    × (c .dof-at .result < c .before .before .dof-count .result)
-    × (c .before .before .dof-count .result * c .before .before .dof-count .result ≤ length (start c .args .mass .now))
-    × (c .before .before .dof-count .result ≤ length (start c .args .j .now))
-    × (c .before .before .dof-count .result ≤ length (start c .args .wj .now))
+    → (c .before .dof-count .result ≤ dofLimit)
+    × (c .dof-at .result < c .before .dof-count .result)
+    × (c .before .dof-count .result * c .before .dof-count .result ≤ length (start c .args .mass .now))
+    × (c .before .dof-count .result ≤ length (start c .args .j .now))
+    × (c .before .dof-count .result ≤ length (start c .args .wj .now))
 ready c =
     let s = start c in
     let a = s .args in
-    let accepted : tie.Else1 = c .before .before .before in
+    let accepted : tie.Else1 = c .before .before in
     let k = accepted .before .row-refusal in
-    let byte = c .before .axis-byte in
-    let count = c .before .before .dof-count in
+    let count = c .before .dof-count in
     row-ready (a .arm) (a .link) (a .axis) (a .fine) (a .ordered) (a .mass .now) (length (a .j .now)) (length (a .wj .now)) (sym (k .ensures) ∙ accepted .if1 .left)
-    (count .result) (byte .result) (c .dof-at .result) (count .ensures) (byte .ensures) (c .dof-at .ensures) (links-length (a .arm) (s .good .0))
+    (count .result) (c .dof-at .result) (count .ensures) (c .dof-at .ensures) (links-length (a .arm) (s .good .0))
 
 mul-unit : tie.Need-mul-unit
 mul-unit c = let r = ready c in search needs
@@ -77,7 +73,7 @@ constrain-requires c κs =
     let placed : tie.After-dof-at = search in
     let r = ready placed in
     let u = set (replicate dofLimit zero32) (placed .dof-at .result) one32 in
-    let long = front-length (placed .before .before .dof-count .result) u (simp length-set (r .0)) in
+    let long = front-length (placed .before .dof-count .result) u (simp length-set (r .0)) in
     rw long r
 
 same-length : tie.Need-same-length
@@ -94,12 +90,11 @@ returns-2 c =
     let s = start placed in
     let a = s .args in
     let at = placed .dof-at in
-    let byte = placed .before .axis-byte in
-    let count = placed .before .before .dof-count in
-    let k = placed .before .before .before in
+    let count = placed .before .dof-count in
+    let k = placed .before .before in
     c .before .before .before .before .constrain .ensures
     ∙ unit-on (a .b) (a .cfm-coeff) _ (count .result) _ (at .result) _ _ (a .mass .now) (a .j .now) (a .wj .now) (sym (k .before .row-refusal .ensures) ∙ k .if1 .left)
-    (count .ensures) (at .ensures ∙ dof-byte (a .arm) (a .link) (a .axis) (byte .result) (byte .ensures)) (unit-front (count .result) dofLimit (at .result) (r .0) (r .1))
+    (count .ensures) (at .ensures) (unit-front (count .result) dofLimit (at .result) (r .0) (r .1))
 
 pub axis-row-spec : {M : Type 1} → statement M
 axis-row-spec =
@@ -109,7 +104,6 @@ axis-row-spec =
     refused-row-requires
     returns
     dof-count-requires
-    axis-byte-requires
     dof-at-requires
     mul-unit
     array-write-unit

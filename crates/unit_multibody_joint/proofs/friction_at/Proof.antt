@@ -1,4 +1,4 @@
--- `friction_at`: the row's entries up to the DoF count, at the DoF; an axis as a byte has the same DoF. Assumes nothing.
+-- `friction_at`: the row's entries up to the DoF count, at the DoF. Assumes nothing.
 use Prim.Native.Nat.{_<_}
 use mathlib.Core.Path.{_∙_}
 use mathlib.Core.List.{[]}
@@ -27,9 +27,6 @@ element-copy-out-row c = search needs
 dof-count-requires : tie.Need-dof-count-requires
 dof-count-requires c κs = search needs
 
-axis-byte-requires : tie.Need-axis-byte-requires
-axis-byte-requires c κs = search needs
-
 dof-at-requires : tie.Need-dof-at-requires
 dof-at-requires c κs = search needs
 
@@ -55,11 +52,10 @@ returns c =
     let s : tie.Start = search in
     let numbered : tie.After-row-number = search in
     let counted : tie.After-dof-count = search in
-    let byte : tie.After-axis-byte = search in
     let placed : tie.After-dof-at = search in
     c .entry .ensures
-    ∙ friction-is (s .args .t1) (s .args .link) (s .args .axis) noRow (counted .dof-count .result) (numbered .row-number .result) (byte .axis-byte .result) (placed .dof-at .result)
-    (rows-length (s .args .t1) (s .good .0)) (counted .dof-count .ensures) (numbered .row-number .ensures) (byte .axis-byte .ensures) (placed .dof-at .ensures)
+    ∙ friction-is (s .args .t1) (s .args .link) (s .args .axis) noRow (counted .dof-count .result) (numbered .row-number .result) (placed .dof-at .result)
+    (rows-length (s .args .t1) (s .good .0)) (counted .dof-count .ensures) (numbered .row-number .ensures) (placed .dof-at .ensures)
 
 pub friction-at-spec : {M : Type 1} → statement M
 friction-at-spec =
@@ -69,7 +65,6 @@ friction-at-spec =
     mul-row
     element-copy-out-row
     dof-count-requires
-    axis-byte-requires
     dof-at-requires
     sub-entry
     part-entry-start

@@ -1,12 +1,10 @@
--- `row_refusal`: the same list of tests; an axis as a byte is as free. Assumes nothing.
+-- `row_refusal`: the same list of tests. Assumes nothing.
 use Prim.Native.Nat.{_≤_}
 use native.Mathlib.Omega.{arith}
 use Rattle.limits.specs.Limits.{dofLimit}
 use Rattle.elimination.proofs.Rows.{square-mono}
-use Rattle.arm.specs.Arm.{maskAt}
 use Rattle.arm.proofs.Live.{dof-count-le}
 use Rattle.unit_multibody_joint.specs.Refusals.{rowRefusal}
-use Rattle.unit_multibody_joint.proofs.Rows.{free-byte}
 use borrow.Author.Needs.{needs}
 use Rattle.unit_multibody_joint.proofs.row_refusal.Statement.{statement}
 use Rattle.unit_multibody_joint.proofs.row_refusal.Tie as tie
@@ -31,9 +29,6 @@ is-axis-requires c κs = search needs
 
 unless-requires-3 : tie.Need-unless-requires-3
 unless-requires-3 c κs = search needs
-
-axis-byte-requires : tie.Need-axis-byte-requires
-axis-byte-requires c κs = search needs
 
 is-free-requires : tie.Need-is-free-requires
 is-free-requires c κs = search needs
@@ -68,10 +63,7 @@ lowest-requires c κs = search needs
 
 returns : tie.Need-returns
 unfolding rowRefusal
-returns c =
-    let s : tie.Start = search in
-    let byte : tie.After-axis-byte = search in
-    cc (free-byte (maskAt (s .args .arm) (s .args .link)) (s .args .axis) (byte .axis-byte .result) (byte .axis-byte .ensures))
+returns c = cc
 
 pub row-refusal-spec : {M : Type 1} → statement M
 row-refusal-spec =
@@ -84,7 +76,6 @@ row-refusal-spec =
     unless-requires-2
     is-axis-requires
     unless-requires-3
-    axis-byte-requires
     is-free-requires
     unless-requires-4
     mul-is-finite-part

@@ -1,9 +1,9 @@
--- `fixed_joint`: each branch is its case of the definition. Assumes nothing.
+-- `fixed_at`: each branch is its case of the definition. Assumes nothing.
 use borrow.Author.Tests.{eq-eqb, ne-eqb}
 use Rattle.root_change.specs.Root.{rootJoint}
 use borrow.Author.Needs.{needs}
-use Rattle.root_change.proofs.fixed_joint.Statement.{statement}
-use Rattle.root_change.proofs.fixed_joint.Tie as tie
+use Rattle.root_change.proofs.fixed_at.Statement.{statement}
+use Rattle.root_change.proofs.fixed_at.Tie as tie
 
 with-frames-requires : tie.Need-with-frames-requires
 with-frames-requires c κs = search needs
@@ -19,5 +19,5 @@ returns-2 : tie.Need-returns-2
 unfolding rootJoint
 returns-2 c = rw (ne-eqb _ 7 (c .before .if1 .left)) (c .fixed .ensures)
 
-pub fixed-joint-spec : {M : Type 1} → statement M
-fixed-joint-spec = tie.close (tie.spec with-frames-requires returns fixed-requires returns-2)
+pub fixed-at-spec : {M : Type 1} → statement M
+fixed-at-spec = tie.close (tie.spec with-frames-requires returns fixed-requires returns-2)
