@@ -33,7 +33,7 @@ use Rattle.kinematics.specs.State.{state, inputsOf, keptAt, keptOps, parentAt}
 use Rattle.kinematics.proofs.Pass.{new-same}
 use Rattle.full_working.specs.Full.{Settled}
 use Rattle.kinematics.specs.Promises.{Fresh, Ready}
-use Rattle.one_link.specs.Promise.{Kept, Right}
+use Rattle.one_link.specs.Promise.{RestKept, Right}
 use Rattle.one_link.proofs.Parents.{parent-le}
 use Rattle.one_link.proofs.Settles.{Facts, facts}
 use Rattle.one_link.proofs.Right.{Edit, right, call-keeps}
@@ -230,7 +230,7 @@ module _ (a : Arm) (t : List Float) (sized : Sized a) (settled : Settled a t) (n
   dofs-kept j h = ap (λ (xs : List ℕ). dofsOf (getD xs j 7)) masks-added ∙ ap dofsOf (List·getD-append ms _ 7 j (omega (arith, masks-length)))
 
   -- a link that was there has its start and its mask
-  kept : Kept a (addedInputs a new)
+  kept : RestKept a (addedInputs a new)
   unfolding addedInputs couplingsOf ownPart rowIn
   kept = record {
     couplings = refl;
@@ -262,7 +262,7 @@ the-addition a t sized settled new =
     right a t sized settled (addRefusal a t new) (addedInputs a new) (only (a .«link_count»)) (IsAdded a) (λ e.
     edit a t sized settled new (passed a t new e))
 
-pub addition-keeps : (a : Arm) (t : List Float) → Sized a → Settled a t → (new : NewLink) → Kept a (linkAdded a t new .answer .arm)
+pub addition-keeps : (a : Arm) (t : List Float) → Sized a → Settled a t → (new : NewLink) → RestKept a (linkAdded a t new .answer .arm)
 unfolding linkAdded
 addition-keeps a t sized settled new =
     call-keeps a t sized settled (addRefusal a t new) (addedInputs a new) (only (a .«link_count»)) (IsAdded a)

@@ -12,7 +12,7 @@ use Rattle.kinematics.specs.Unused.{UnusedZero}
 use Rattle.full_working.specs.Outcome.{Outcome, says}
 use Rattle.full_working.specs.Full.{Settled}
 use Rattle.full_working.specs.Empty.{emptied}
-use Rattle.one_link.specs.Promise.{Kept, Right}
+use Rattle.one_link.specs.Promise.{RestKept, Right}
 use Rattle.one_link_move.specs.declared.Change.{Change}
 use Rattle.one_link_move.specs.Change.{movedInputs}
 use Rattle.one_link_move.specs.Move.{moveRefusal, linkMoved}
@@ -34,10 +34,10 @@ pub record NeverStale (a : Arm) (t : List Float) : Type 0 where
   -- for its results exactly when the full working of the arm with the changed inputs would be; and where it isn't refused it leaves what that leaves
   pub move : (link : ℕ) (change : Change) → Right a t (moveRefusal a t link change) (movedInputs a link change) (AtOrBelow a link) (linkMoved a t link change)
   -- it changes no row entry and no coupling, not of the links below either
-  pub move-keeps : (link : ℕ) (change : Change) → Kept a (linkMoved a t link change .answer .arm)
+  pub move-keeps : (link : ℕ) (change : Change) → RestKept a (linkMoved a t link change .answer .arm)
   -- an addition likewise: the added link is all that may change
   pub addition : (new : NewLink) → Right a t (addRefusal a t new) (addedInputs a new) (IsAdded a) (linkAdded a t new)
-  pub addition-keeps : (new : NewLink) → Kept a (linkAdded a t new .answer .arm)
+  pub addition-keeps : (new : NewLink) → RestKept a (linkAdded a t new .answer .arm)
   -- a call that is refused, whichever it is, leaves the arm and the memory
   pub refused : (c : Call) → (called a t c .answer .refusal ≡ 0 → ⊥) → (called a t c .answer .arm ≡ a) × (called a t c .memory ≡ t)
 

@@ -22,7 +22,7 @@ use Rattle.kinematics.specs.State.{State, stateAfter, fineAfter, cleared, every
 use Rattle.full_working.specs.Outcome.{Outcome, says, unlessRefused, workedAll, workedMarked}
 use Rattle.full_working.specs.Full.{fullRefusal, fullWorking, Settled}
 use Rattle.kinematics.specs.Promises.{Fits, Ready}
-use Rattle.one_link.specs.Promise.{Kept, Untouched, Right}
+use Rattle.one_link.specs.Promise.{RestKept, Untouched, Right}
 use Rattle.kinematics.proofs.Store.{after-blank}
 use Rattle.kinematics.proofs.Promises.{after-good, stays, like-full}
 use Rattle.one_link.proofs.Relinked.{same-masks}
@@ -126,7 +126,7 @@ module _ (a : Arm) (t : List Float) (sized : Sized a) (settled : Settled a t) (n
         sized = sized;
       }
 
-  keeps : Kept a new → (f : Bool) → Kept a (workedTo f a new s t .answer .arm)
+  keeps : RestKept a new → (f : Bool) → RestKept a (workedTo f a new s t .answer .arm)
   unfolding couplingsOf
   keeps k true = record {
     couplings = k .couplings;
@@ -134,8 +134,8 @@ module _ (a : Arm) (t : List Float) (sized : Sized a) (settled : Settled a t) (n
   }
   keeps k false = record { couplings = refl; entries = λ name j h. refl }
 
-  kept : Kept a new → Kept a (workedMarked a new b t .answer .arm)
-  kept k = subst (λ (r : Outcome). Kept a (r .answer .arm)) (sym (as-all ∙ worked-all a new t (e .few) long)) (keeps k (allFine new t))
+  kept : RestKept a new → RestKept a (workedMarked a new b t .answer .arm)
+  kept k = subst (λ (r : Outcome). RestKept a (r .answer .arm)) (sym (as-all ∙ worked-all a new t (e .few) long)) (keeps k (allFine new t))
 
   done : Right a t 0 new Below (workedMarked a new b t)
   done = subst (Right a t 0 new Below) (sym (as-all ∙ worked-all a new t (e .few) long)) (by-test (allFine new t) refl)
@@ -157,7 +157,7 @@ right a t sized settled (suc k) new b Below e = record {
 }
 
 pub call-keeps : (a : Arm) (t : List Float) → Sized a → Settled a t → (own : ℕ) (new : Arm) (b : ℕ → Bool) (Below : ℕ → Type 0) → (own ≡ 0 → Edit a t new b Below)
-    → (own ≡ 0 → Kept a new) → Kept a (unlessRefused own a t (workedMarked a new b t) .answer .arm)
+    → (own ≡ 0 → RestKept a new) → RestKept a (unlessRefused own a t (workedMarked a new b t) .answer .arm)
 unfolding unlessRefused
 call-keeps a t sized settled zero new b Below e k = kept a t sized settled new b Below (e refl) (k refl)
 call-keeps a t sized settled (suc own) new b Below e k = record { couplings = refl; entries = λ name j h. refl }

@@ -16,7 +16,7 @@ use Rattle.full_working.specs.Outcome.{Outcome, workedAll}
 use Rattle.full_working.specs.Full.{fullWorking, Settled}
 
 -- arm b has arm a's couplings and, for each link of a, its own part of each row, bit for bit
-pub record Kept (a b : Arm) : Type 0 where
+pub record RestKept (a b : Arm) : Type 0 where
   pub couplings : couplingsOf b ≡ couplingsOf a
   pub entries : (name : RowName) (j : ℕ) → j < a .«link_count» → ownPart b j (rowIn b name) ≡ ownPart a j (rowIn a name)
 

@@ -11,7 +11,7 @@ use borrow.Author.Tests.{ltb-true}
 use lib.Dec.{ltb}
 use lib.ListN.{length}
 use lib.Ieee.{Float}
-use Rattle.one_link.specs.Promise.{Kept, Right}
+use Rattle.one_link.specs.Promise.{RestKept, Right}
 use Rattle.arm.specs.Setters.{withLinks}
 use Rattle.lists.proofs.Every.{same-tests}
 use Rattle.lists.proofs.Lists.{same-map, same-front}
@@ -228,7 +228,7 @@ module _ (a : Arm) (t : List Float) (sized : Sized a) (settled : Settled a t) (l
     apart = λ j h z. (λ q. unmarked j q z, modify-other (changed change) link j ls noLink (λ q. z (subst (AtOrBelow a link) (sym q) (k .there, itself))));
   }
 
-  kept : Kept a (movedInputs a link change)
+  kept : RestKept a (movedInputs a link change)
   unfolding movedInputs couplingsOf
   kept = record { couplings = refl; entries = λ name j h. same-entries new a new-masks refl name j }
 
@@ -239,7 +239,7 @@ the-move a t sized settled link change =
     right a t sized settled (moveRefusal a t link change) (movedInputs a link change) (marked (marks (parentsOf a) link)) (AtOrBelow a link) (λ e.
     edit a t sized settled link change (passed a t link change e))
 
-pub move-keeps : (a : Arm) (t : List Float) → Sized a → Settled a t → (link : ℕ) (change : Change) → Kept a (linkMoved a t link change .answer .arm)
+pub move-keeps : (a : Arm) (t : List Float) → Sized a → Settled a t → (link : ℕ) (change : Change) → RestKept a (linkMoved a t link change .answer .arm)
 unfolding linkMoved
 move-keeps a t sized settled link change =
     call-keeps a t sized settled (moveRefusal a t link change) (movedInputs a link change) (marked (marks (parentsOf a) link)) (AtOrBelow a link)
