@@ -83,10 +83,7 @@ module _ (a : Arm) (t : List Float) (sized : Sized a) (settled : Settled a t) (n
   stay j h z =
       let p = e .apart j h z in
       let q = stays (new .links) n b t fits .0 j h (p .0) in
-      record {
-        link = ap (λ (x : State). linkAt (x .links) j) (sym same-state) ∙ q .0 ∙ p .1;
-        block = ap (λ (x : State). blockAt j (x .tables)) (sym same-state) ∙ q .1;
-      }
+      (ap (λ (x : State). linkAt (x .links) j) (sym same-state) ∙ q .0 ∙ p .1, ap (λ (x : State). blockAt j (x .tables)) (sym same-state) ∙ q .1)
 
   not-full : allFine new t ≡ false → fullWorking new t .answer .refusal ≡ 0 → ⊥
   unfolding fullWorking
@@ -120,7 +117,7 @@ module _ (a : Arm) (t : List Float) (sized : Sized a) (settled : Settled a t) (n
         exactly = λ z. (λ y. not-full g, λ h. refl);
         as-full = λ z. absurd (omega arith);
         left = λ h. (refl, refl);
-        untouched = λ j h z. record { link = refl; block = refl };
+        untouched = λ j h z. (refl, refl);
         behind = refl;
         settled = settled;
         sized = sized;
@@ -150,7 +147,7 @@ right a t sized settled (suc k) new b Below e = record {
   exactly = λ z. absurd (omega arith);
   as-full = λ z. absurd (omega arith);
   left = λ h. (refl, refl);
-  untouched = λ j h z. record { link = refl; block = refl };
+  untouched = λ j h z. (refl, refl);
   behind = refl;
   settled = settled;
   sized = sized;

@@ -21,9 +21,8 @@ pub record RestKept (a b : Arm) : Type 0 where
   pub entries : (name : RowName) (j : ℕ) → j < a .«link_count» → ownPart b j (rowIn b name) ≡ ownPart a j (rowIn a name)
 
 -- link j and its block are, bit for bit, as they were
-pub record Untouched (a : Arm) (t : List Float) (r : Outcome) (j : ℕ) : Type 0 where
-  pub link : linkAt (r .answer .arm .links) j ≡ linkAt (a .links) j
-  pub block : blockAt j (r .memory) ≡ blockAt j t
+abbrev pub Untouched : Arm → List Float → Outcome → ℕ → Type 0
+Untouched a t r j = (linkAt (r .answer .arm .links) j ≡ linkAt (a .links) j) × (blockAt j (r .memory) ≡ blockAt j t)
 
 -- r is what the call left of arm a and memory t. `own` is its refusal before any result is worked out, `new` the arm with the new inputs, Below the link
 -- that is moved or added and those below it
