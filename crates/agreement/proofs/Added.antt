@@ -91,6 +91,7 @@ module _ (a b : Arm) (s : Sized a) (r : Sized b) (g : Agree a b) (t : List Float
         rows-grown a s t new k
         ∙ ap₂ (grown (new .locked)) (same-dofs a b g) (g .rows)
         ∙ sym (rows-grown b r t new l);
+    rest = g .rest;
   }
 
   pub workable-added : Workable (addedInputs a new) (addedInputs b new)

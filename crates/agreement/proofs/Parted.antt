@@ -4,10 +4,10 @@ use mathlib.Core.Path.{_≡_, refl, sym, ap, _∙_}
 use mathlib.Core.Bool.{cond}
 use mathlib.Core.List.{List, [], _∷_, map}
 use native.Mathlib.Omega.{arith}
-use lib.ListN.{take, drop, getD}
+use lib.ListN.{length, take, drop, getD}
 use lib.Seq.{take-take, getD-take}
 use lib.Ieee.{Float}
-use Rattle.arm.specs.Empty.{blankRow}
+use Rattle.arm.specs.Empty.{blankRow, emptyArm}
 use Rattle.lists.specs.Lists.{laid}
 use Rattle.lists.specs.Numbers.{gathered, chosen}
 use Rattle.arm.specs.Sized.{Sized}
@@ -21,6 +21,7 @@ use Rattle.arm.specs.declared.Row.{Row}
 use Rattle.arm.specs.declared.Arm.{Arm}
 use Rattle.arm.specs.Arm.{liveLinks, couplingsOf, maskAt, startAt, dofCountOf, rowsOf, linkAt, noCoupling, couplingAt, ownPart}
 use Rattle.arm.specs.Agree.{Agree}
+use Rattle.arm.specs.Setters.{armWith}
 use Rattle.arm.proofs.Live.{part-within}
 use Rattle.arm.proofs.Agree.{same-parents, same-mask-at, same-start}
 use Rattle.part_arm.specs.Places.{Places, placesOf, goesOn}
@@ -97,7 +98,11 @@ module _ (p : Places) (a b : Arm) (s : Sized a) (r : Sized b) (g : Agree a b) wh
 
   arm-same : partArm p a ≡ partArm p b
   unfolding partArm
-  arm-same = cc (links-same, couplings-same, rows-same)
+  arm-same =
+      let ls = partLinks p a in
+      let cs = partCouplings p a in
+      ap (λ (x : Arm). armWith x (length ls) (length cs) (laid ls (emptyArm .links)) (laid cs (emptyArm .couplings)) (map (partRow p a) (a .rows))) (g .rest)
+      ∙ cc (links-same, couplings-same, rows-same)
 
 -- ---- the part of a split
 

@@ -145,6 +145,7 @@ module _ (a b : Arm) (s : Sized a) (r : Sized b) (g : Agree a b) (root : Root) (
         rows-rooted a s root k
         ∙ ap₂ (λ (x : Link) (rows : List (List Float)). map (rerooted (x .joint .locked) (lockedBy root)) rows) (same-link a b g 0 (there a s root k)) (g .rows)
         ∙ sym (rows-rooted b r root l);
+    rest = g .rest;
   }
 
   pub workable-rooted : Workable (rootChanged a root) (rootChanged b root)

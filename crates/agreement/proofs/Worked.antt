@@ -75,6 +75,7 @@ agree-relinked a b ls ms g e l = record {
   links = l;
   couplings = g .couplings;
   rows = rows-stay a ls e ∙ g .rows ∙ sym (rows-stay b ms (ap (map lockedOf) (sym l) ∙ e ∙ same-masks a b g));
+  rest = g .rest;
 }
 
 -- ---- the working

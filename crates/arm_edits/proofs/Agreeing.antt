@@ -65,6 +65,7 @@ module _ (a b : Arm) (g : Agree a b) where
     couplings = g .couplings;
     rows = rows-written a name link axis v
         ∙ rw (same-dof-at a b g link axis, g .rows) (sym (rows-written b name link axis v));
+    rest = g .rest;
   }
 
   pub write-alike : (name : RowName) (link axis : ℕ) (v : Float) → AlikeEdited (rowWritten a name link axis v) (rowWritten b name link axis v)
@@ -108,6 +109,7 @@ module _ (a b : Arm) (g : Agree a b) where
     links = links-sprung a link axis s ∙ ap (modify (linkSpringSet axis s) link) (g .links) ∙ sym (links-sprung b link axis s);
     couplings = g .couplings;
     rows = rows-sprung a link axis s ∙ g .rows ∙ sym (rows-sprung b link axis s);
+    rest = g .rest;
   }
 
   pub set-spring-alike : (link axis : ℕ) (s : Spring) → AlikeEdited (armSpringSet a link axis s) (armSpringSet b link axis s)
@@ -141,6 +143,7 @@ module _ (a b : Arm) (g : Agree a b) where
         ∙ ap (λ (l : List Coupling). l ++ (couplingOf c ∷ [])) (g .couplings)
         ∙ sym (couplings-more b c (t .couplings) (coupling-fits b c (sym (same-coupling-refusal c) ∙ z) .place));
     rows = g .rows;
+    rest = g .rest;
   }
 
   pub coupling-alike : (c : NewCoupling) → Sized a → Sized b → AlikeEdited (couplingAdded a c) (couplingAdded b c)
