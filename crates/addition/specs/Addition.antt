@@ -1,7 +1,7 @@
 -- The addition of a link: what it refuses, what it answers, and what the tables then hold.
 use Prim.Native.Nat.{ℕ, zero, suc}
 use mathlib.Core.Bool.{Bool, _&&_, _||_}
-use mathlib.Core.List.{List, [], _∷_}
+use mathlib.Core.List.{List, _∷_}
 use lib.Dec.{eqb, ltb}
 use lib.Ieee.{Float}
 use Rattle.limits.specs.Limits.{linkLimit}
@@ -11,7 +11,7 @@ use Rattle.planar.specs.Poses.{rotationOf, isTurn, finitePoint, finitePose}
 use Rattle.topology.specs.Parents.{parentFits}
 use Rattle.arm.specs.declared.Arm.{Arm}
 use Rattle.arm.specs.Arm.{tagsOf}
-use Rattle.arm.specs.HandedIn.{isNew, armRefusal}
+use Rattle.arm.specs.HandedIn.{isNew, armEntries}
 use Rattle.kinematics.specs.State.{only}
 use Rattle.full_working.specs.Outcome.{Outcome, unlessRefused, tablesFit, workedMarked}
 use Rattle.one_link.specs.Above.{aboveFinite}
@@ -46,8 +46,7 @@ addRefusal a t new =
     ∷ unlessOf (masksFit n new) 5
     ∷ unlessOf (floatsFinite new && aboveFinite n (new .parent) t) 7
     ∷ unlessOf (turnsFit new) 8
-    ∷ armRefusal a
-    ∷ [])
+    ∷ armEntries a)
 
 -- the new link alone, over what is kept
 unfoldable pub linkAdded : Arm → List Float → NewLink → Outcome

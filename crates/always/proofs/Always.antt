@@ -16,7 +16,7 @@ use Rattle.topology.specs.declared.Split.{Split}
 use Rattle.topology.specs.Parents.{parentsFit}
 use Rattle.arm.specs.declared.Arm.{Arm}
 use Rattle.arm.specs.Arm.{linksOf, couplingsOf, tagsOf, parentsOf, masksOf, dofCountOf, rowsOf}
-use Rattle.arm.specs.HandedIn.{unique, tagsUnique, parentsEarlier, rootFits, rowsFinite, armEntries, armRefusal}
+use Rattle.arm.specs.HandedIn.{unique, tagsUnique, parentsEarlier, rootFits, rowsFinite, armRules, armRefusal}
 use Rattle.kinematics.specs.Pass.{run as pass}
 use Rattle.kinematics.specs.State.{stateAfter, fineAfter, cleared}
 use Rattle.full_working.specs.Outcome.{Outcome}
@@ -62,7 +62,7 @@ Holds o = Held (o .answer .arm) (o .memory)
 -- ---- the beginning
 
 empty-accepted : armRefusal emptyArm ≡ 0
-unfolding emptyArm armRefusal armEntries lowerOf linksOf couplingsOf tagsOf parentsOf masksOf dofCountOf rowsOf totalOf unique tagsUnique parentsEarlier parentsFit allBelow rootFits rowsFinite
+unfolding emptyArm armRefusal armRules lowerOf linksOf couplingsOf tagsOf parentsOf masksOf dofCountOf rowsOf totalOf unique tagsUnique parentsEarlier parentsFit allBelow rootFits rowsFinite
 empty-accepted = refl
 
 empty-settled : (t : List Float) → Settled emptyArm (cleared t)

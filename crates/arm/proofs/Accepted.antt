@@ -14,7 +14,7 @@ use Rattle.refusal.specs.Refusal.{unlessOf, lowerOf, lowest}
 use Rattle.refusal.proofs.Laws.{holds-in}
 use Rattle.arm.specs.declared.Arm.{Arm}
 use Rattle.arm.specs.Arm.{liveLinks, isLink, linksOf, couplingsOf}
-use Rattle.arm.specs.HandedIn.{countsFit, tagsUnique, parentsEarlier, couplingsLinksFit, linkNumbersFit, linkMasksFit, rootFits, couplingAxesFit, masksAndAxesFit, linkFinite, couplingFinite, rowsFinite, floatsFinite, anglesFit, armEntries, armRefusal}
+use Rattle.arm.specs.HandedIn.{countsFit, tagsUnique, parentsEarlier, couplingsLinksFit, linkNumbersFit, linkMasksFit, rootFits, couplingAxesFit, masksAndAxesFit, linkFinite, couplingFinite, rowsFinite, floatsFinite, anglesFit, armRules, armRefusal}
 
 pub record Accepted (a : Arm) : Type 0 where
   pub counts : countsFit a ≡ true
@@ -30,9 +30,9 @@ pub record Accepted (a : Arm) : Type 0 where
   pub angles : anglesFit a ≡ true
 
 pub accepted : (a : Arm) → armRefusal a ≡ 0 → Accepted a
-unfolding armRefusal armEntries
+unfolding armRefusal armRules
 accepted a e =
-    let ks = armEntries a in
+    let ks = armRules a in
     let numbers = both-hold _ _ (holds-in ks e (linkNumbersFit a) 3 (inr (inr (inl refl)))) in
     let masks = both-hold _ _ (holds-in ks e (masksAndAxesFit a) 4 (inr (inr (inr (inl refl))))) in
     let of-links = both-hold _ _ (masks .0) in
@@ -58,7 +58,7 @@ unfolding lowerOf
 none p q r s u v ep eq er es eu ev = rw (ep, eq, er, es, eu, ev)
 
 pub not-refused : (a : Arm) → Accepted a → armRefusal a ≡ 0
-unfolding armRefusal armEntries
+unfolding armRefusal armRules
 not-refused a k =
     none (countsFit a) (tagsUnique a) (linkNumbersFit a) (masksAndAxesFit a) (floatsFinite a) (anglesFit a) (k .counts) (k .tags)
     (both (k .parents) (k .coupled)) (both (both (k .masks) (k .root)) (k .axes)) (both (both (k .links) (k .couplings)) (k .rows)) (k .angles)

@@ -9,7 +9,7 @@ use Rattle.masks.specs.Starts.{totalOf, startOf}
 use Rattle.arm.specs.declared.Arm.{Arm}
 use Rattle.arm.specs.Arm.{lockedOf, parentOf, tagOf, masksOf, maskAt, startAt, dofCountOf, tagsOf, parentsOf}
 use Rattle.arm.specs.Edits.{edited, dofAt}
-use Rattle.arm.specs.HandedIn.{tagsUnique, parentsEarlier, rootFits, rowsFinite, armEntries, armRefusal}
+use Rattle.arm.specs.HandedIn.{tagsUnique, parentsEarlier, rootFits, rowsFinite, armRules, armRefusal}
 use Rattle.arm.specs.Agree.{Agree, AlikeEdited}
 
 module _ (a b : Arm) (g : Agree a b) where
@@ -42,8 +42,8 @@ module _ (a b : Arm) (g : Agree a b) where
   same-dof-at link axis = rw (same-start link, same-mask-at link)
 
   -- the arm's own tests
-  pub same-entries : armEntries a ≡ armEntries b
-  unfolding armEntries tagsUnique parentsEarlier rootFits rowsFinite
+  pub same-entries : armRules a ≡ armRules b
+  unfolding armRules tagsUnique parentsEarlier rootFits rowsFinite
   same-entries = cc (same-masks, same-parents, same-tags)
 
   pub same-arm-refusal : armRefusal a ≡ armRefusal b

@@ -13,14 +13,14 @@ use Rattle.masks.proofs.Totals.{start-next, start-room}
 use Rattle.arm.specs.declared.Arm.{Arm}
 use Rattle.arm.specs.Arm.{linksOf, lockedOf, masksOf, maskAt, startAt}
 use Rattle.arm.specs.Edits.{edited, dofAt}
-use Rattle.arm.specs.HandedIn.{armEntries, armRefusal}
+use Rattle.arm.specs.HandedIn.{armRules, armRefusal}
 use Rattle.arm.specs.Words.{FreeAxis}
 
 -- ---- the refusal of an arm handed in is the lowest of its six entries
 
-pub arm-lowest : (a : Arm) → Lowest (armEntries a) (armRefusal a)
+pub arm-lowest : (a : Arm) → Lowest (armRules a) (armRefusal a)
 unfolding armRefusal
-arm-lowest a = is-lowest (armEntries a)
+arm-lowest a = is-lowest (armRules a)
 
 -- ---- a refusal returns the arm as it came, an accepted edit the new one
 

@@ -109,8 +109,8 @@ anglesFit a = every linkAngleFits (linksOf a)
 -- ---- the refusal
 
 -- one entry for each rule
-unfoldable pub armEntries : Arm → List ℕ
-armEntries a =
+unfoldable pub armRules : Arm → List ℕ
+armRules a =
     unlessOf (countsFit a) 2
     ∷ unlessOf (tagsUnique a) 3
     ∷ unlessOf (linkNumbersFit a) 4
@@ -120,4 +120,8 @@ armEntries a =
     ∷ []
 
 unfoldable pub armRefusal : Arm → ℕ
-armRefusal a = lowest (armEntries a)
+armRefusal a = lowest (armRules a)
+
+-- what a call that takes an arm adds to its own entries: the lowest of the arm's
+abbrev pub armEntries : Arm → List ℕ
+armEntries a = armRefusal a ∷ []

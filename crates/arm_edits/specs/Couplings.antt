@@ -1,7 +1,7 @@
 -- The addition of a coupling, at the end of the list. Its links and axes are any numbers; a locked axis passes.
 use Prim.Native.Nat.{ℕ, _+_}
 use mathlib.Core.Bool.{_&&_}
-use mathlib.Core.List.{List, [], _∷_}
+use mathlib.Core.List.{List, _∷_}
 use lib.Dec.{ltb}
 use lib.ListN.{set}
 use Rattle.arm.specs.Setters.{withCouplings}
@@ -14,7 +14,7 @@ use Rattle.arm.specs.declared.Arm.{Arm}
 use Rattle.arm.specs.declared.Edited.{Edited}
 use Rattle.arm.specs.Arm.{isLink}
 use Rattle.arm.specs.Edits.{edited}
-use Rattle.arm.specs.HandedIn.{armRefusal}
+use Rattle.arm.specs.HandedIn.{armEntries}
 use Rattle.arm_edits.specs.declared.NewCoupling.{NewCoupling}
 
 -- 2: the list is full
@@ -24,8 +24,7 @@ couplingEntries a c =
     ∷ unlessOf (isLink a (c .link1) && isLink a (c .link2)) 4
     ∷ unlessOf (isAxis (c .axis1) && isAxis (c .axis2)) 5
     ∷ unlessOf (isFinite (c .coefficient) && isFinite (c .offset)) 7
-    ∷ armRefusal a
-    ∷ []
+    ∷ armEntries a
 
 unfoldable pub couplingRefusal : Arm → NewCoupling → ℕ
 couplingRefusal a c = lowest (couplingEntries a c)

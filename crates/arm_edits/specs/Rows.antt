@@ -1,6 +1,6 @@
 -- A row write: one entry of one row is set, named by link and axis. Both are any numbers.
 use Prim.Native.Nat.{ℕ}
-use mathlib.Core.List.{List, [], _∷_}
+use mathlib.Core.List.{List, _∷_}
 use lib.ListN.{set}
 use lib.Ieee.{Float}
 use Rattle.arm.specs.Setters.{withRows}
@@ -14,7 +14,7 @@ use Rattle.arm.specs.declared.Arm.{Arm}
 use Rattle.arm.specs.declared.Edited.{Edited}
 use Rattle.arm.specs.Arm.{isLink, maskAt, rowNumber}
 use Rattle.arm.specs.Edits.{edited, dofAt}
-use Rattle.arm.specs.HandedIn.{armRefusal}
+use Rattle.arm.specs.HandedIn.{armEntries}
 
 -- 6: the axis asked for is locked
 abbrev pub writeEntries : Arm → ℕ → ℕ → Float → List ℕ
@@ -23,8 +23,7 @@ writeEntries a link axis value =
     ∷ unlessOf (isAxis axis) 5
     ∷ unlessOf (isFree (maskAt a link) axis) 6
     ∷ unlessOf (isFinite value) 7
-    ∷ armRefusal a
-    ∷ []
+    ∷ armEntries a
 
 unfoldable pub writeRefusal : Arm → ℕ → ℕ → Float → ℕ
 writeRefusal a link axis value = lowest (writeEntries a link axis value)

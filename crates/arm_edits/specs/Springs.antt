@@ -1,7 +1,7 @@
 -- `set_spring` of a link's joint: a stiffness and a rest for an axis, locked or not. Link and axis are any numbers.
 use Prim.Native.Nat.{ℕ}
 use mathlib.Core.Bool.{Bool, _&&_}
-use mathlib.Core.List.{List, [], _∷_}
+use mathlib.Core.List.{List, _∷_}
 use Rattle.arm.specs.Setters.{withLinks, withJoint}
 use Rattle.lists.specs.Lists.{modify}
 use Rattle.refusal.specs.Refusal.{unlessOf, lowest}
@@ -14,7 +14,7 @@ use Rattle.arm.specs.declared.Arm.{Arm}
 use Rattle.arm.specs.declared.Edited.{Edited}
 use Rattle.arm.specs.Arm.{isLink}
 use Rattle.arm.specs.Edits.{edited}
-use Rattle.arm.specs.HandedIn.{armRefusal}
+use Rattle.arm.specs.HandedIn.{armEntries}
 
 unfoldable pub springFinite : Spring → Bool
 springFinite s = isFinite (s .stiffness) && isFinite (s .rest)
@@ -24,8 +24,7 @@ springEntries a link axis s =
     unlessOf (isLink a link) 4
     ∷ unlessOf (isAxis axis) 5
     ∷ unlessOf (springFinite s) 7
-    ∷ armRefusal a
-    ∷ []
+    ∷ armEntries a
 
 unfoldable pub springRefusal : Arm → ℕ → ℕ → Spring → ℕ
 springRefusal a link axis s = lowest (springEntries a link axis s)

@@ -23,7 +23,7 @@ use Rattle.full_working.specs.Outcome.{tablesFit}
 use Rattle.topology.specs.Answers.{refusalOf, splitAnswer}
 use Rattle.arm.specs.declared.Arm.{Arm}
 use Rattle.arm.specs.Arm.{liveLinks, parentsOf}
-use Rattle.arm.specs.HandedIn.{countsFit, parentsEarlier, armEntries, armRefusal}
+use Rattle.arm.specs.HandedIn.{countsFit, parentsEarlier, armRules, armRefusal}
 use Rattle.arm.proofs.Live.{parents-live}
 use Rattle.arm_split.specs.Answers.{splitRefusal, armSplit, partRefusal}
 
@@ -73,18 +73,18 @@ module _ (a : Arm) (whole : length (a .links) ≡ linkLimit) (s : Split) where
   Low : Type 0
   Low = (armRefusal a ≡ 0 → ⊥) × (armRefusal a ≤ 4)
 
-  low : (k : ℕ) → In (suc k) (armEntries a) → suc k ≤ 4 → Low
+  low : (k : ℕ) → In (suc k) (armRules a) → suc k ≤ 4 → Low
   unfolding armRefusal Low
   low k i h =
-      let least = is-lowest (armEntries a) in
+      let least = is-lowest (armRules a) in
       (λ z. (let e = least .none z (suc k) i in omega arith), omega (arith, least .least (suc k) i (λ z. omega arith)))
 
   low-counts : countsFit a ≡ false → Low
-  unfolding armEntries
+  unfolding armRules
   low-counts e = low 1 (inl (rw e)) (omega arith)
 
   low-numbers : parentsFit (parentsOf a) ≡ false → Low
-  unfolding armEntries parentsEarlier
+  unfolding armRules parentsEarlier
   low-numbers e = low 3 (inr (inr (inl (rw e)))) (omega arith)
 
   -- the links fit, and each parent is earlier

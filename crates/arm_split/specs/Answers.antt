@@ -1,6 +1,6 @@
 -- What a split of an arm answers, and one of its parts.
 use Prim.Native.Nat.{ℕ, _*_}
-use mathlib.Core.List.{List, [], _∷_}
+use mathlib.Core.List.{List, _∷_}
 use lib.Dec.{leb, ltb}
 use lib.ListN.{length}
 use lib.Ieee.{Float}
@@ -11,7 +11,7 @@ use Rattle.topology.specs.Split.{linkOf, partCount, splitMap}
 use Rattle.arm.specs.declared.Arm.{Arm}
 use Rattle.arm.specs.Arm.{liveLinks, isLink, parentsOf}
 use Rattle.arm.specs.Empty.{emptyArm}
-use Rattle.arm.specs.HandedIn.{armRefusal}
+use Rattle.arm.specs.HandedIn.{armEntries}
 use Rattle.full_working.specs.Outcome.{Outcome, unlessRefused, tablesFit, workedAll}
 use Rattle.part_arm.specs.Places.{placesOf}
 use Rattle.part_arm.specs.Part.{partArm}
@@ -24,8 +24,7 @@ splitRefusal a s m =
     lowest
     (unlessOf (leb (2 * liveLinks a) (length m)) 1
     ∷ unlessOf (isLink a (linkOf s)) 4
-    ∷ armRefusal a
-    ∷ [])
+    ∷ armEntries a)
 
 -- the part count, and part and number of each link
 unfoldable pub armSplit : Arm → Split → List ℕ → MapOutcome ℕ
@@ -40,8 +39,7 @@ partRefusal a s k t =
     (unlessOf (tablesFit t) 1
     ∷ unlessOf (isLink a (linkOf s)) 4
     ∷ unlessOf (ltb k (partCount (parentsOf a) s)) 4
-    ∷ armRefusal a
-    ∷ [])
+    ∷ armEntries a)
 
 -- part k as an arm, worked out into tables of its own; refused: the number, an empty arm, and the tables as they were
 unfoldable pub armPart : Arm → Split → ℕ → List Float → Outcome

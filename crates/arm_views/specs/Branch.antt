@@ -1,6 +1,6 @@
 -- `kinematic_branch` of an arm: from the root to a link, into lent memory.
 use Prim.Native.Nat.{ℕ}
-use mathlib.Core.List.{List, [], _∷_}
+use mathlib.Core.List.{List, _∷_}
 use lib.Dec.{leb}
 use lib.ListN.{length}
 use Rattle.refusal.specs.Counted.{Outcome, filled}
@@ -8,14 +8,14 @@ use Rattle.refusal.specs.Refusal.{unlessOf, lowest}
 use Rattle.topology.specs.Parents.{branch}
 use Rattle.arm.specs.declared.Arm.{Arm}
 use Rattle.arm.specs.Arm.{isLink, parentsOf}
-use Rattle.arm.specs.HandedIn.{armRefusal}
+use Rattle.arm.specs.HandedIn.{armEntries}
 
 -- how many places a branch needs: it climbs while the parent is earlier; none where there is no such link
 unfoldable pub branchNeeded : Arm → ℕ → ℕ
 branchNeeded a link = length (branch (parentsOf a) link)
 
 abbrev pub branchEntries : Arm → ℕ → ℕ → List ℕ
-branchEntries a link room = unlessOf (leb (branchNeeded a link) room) 1 ∷ unlessOf (isLink a link) 4 ∷ armRefusal a ∷ []
+branchEntries a link room = unlessOf (leb (branchNeeded a link) room) 1 ∷ unlessOf (isLink a link) 4 ∷ armEntries a
 
 unfoldable pub branchRefusal : Arm → ℕ → ℕ → ℕ
 branchRefusal a link room = lowest (branchEntries a link room)

@@ -1,6 +1,6 @@
 -- What is read of a link's joint: a spring, and accelerations put on their axes.
 use Prim.Native.Nat.{ℕ, zero, suc}
-use mathlib.Core.List.{List, [], _∷_, map}
+use mathlib.Core.List.{List, _∷_, map}
 use lib.Dec.{leb}
 use lib.ListN.{length, take, getD}
 use lib.Ieee.{Float}
@@ -14,7 +14,7 @@ use Rattle.multibody_joint.specs.Joint.{zeros}
 use Rattle.arm.specs.declared.Link.{Link}
 use Rattle.arm.specs.declared.Arm.{Arm}
 use Rattle.arm.specs.Arm.{isLink, linksOf, maskAt}
-use Rattle.arm.specs.HandedIn.{armRefusal}
+use Rattle.arm.specs.HandedIn.{armEntries}
 use Rattle.arm_views.specs.declared.SpringAnswer.{SpringAnswer}
 use Rattle.arm_views.specs.declared.AxesAnswer.{AxesAnswer}
 
@@ -25,7 +25,7 @@ ofLink f d a link = getD (map f (linksOf a)) link d
 -- ---- the spring of an axis, locked or not
 
 abbrev pub springEntries : Arm → ℕ → ℕ → List ℕ
-springEntries a link axis = unlessOf (isLink a link) 4 ∷ unlessOf (isAxis axis) 5 ∷ armRefusal a ∷ []
+springEntries a link axis = unlessOf (isLink a link) 4 ∷ unlessOf (isAxis axis) 5 ∷ armEntries a
 
 unfoldable pub springRefusal : Arm → ℕ → ℕ → ℕ
 springRefusal a link axis = lowest (springEntries a link axis)
@@ -54,8 +54,7 @@ mulEntries a link accelerations =
     unlessOf (leb (linkDofs a link) (length accelerations)) 1
     ∷ unlessOf (isLink a link) 4
     ∷ unlessOf (allFinite (take (linkDofs a link) accelerations)) 7
-    ∷ armRefusal a
-    ∷ []
+    ∷ armEntries a
 
 unfoldable pub mulRefusal : Arm → ℕ → List Float → ℕ
 mulRefusal a link accelerations = lowest (mulEntries a link accelerations)

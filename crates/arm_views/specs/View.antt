@@ -8,7 +8,7 @@ use lib.Ieee.{Float}
 use Rattle.refusal.specs.Refusal.{unlessOf, lowest}
 use Rattle.arm.specs.declared.Arm.{Arm}
 use Rattle.arm.specs.Arm.{isLink, dofCountOf, ownPart}
-use Rattle.arm.specs.HandedIn.{armRefusal}
+use Rattle.arm.specs.HandedIn.{armEntries}
 use Rattle.arm_views.specs.declared.Role.{Role}
 use Rattle.arm_views.specs.declared.Role.the-variants.{Velocities, Accelerations}
 
@@ -30,8 +30,7 @@ abbrev pub viewEntries : Arm → ℕ → ℕ → ℕ → List ℕ
 viewEntries a link velocities accelerations =
     unlessOf (leb (dofCountOf a) velocities && leb (dofCountOf a) accelerations) 1
     ∷ unlessOf (isLink a link) 4
-    ∷ armRefusal a
-    ∷ []
+    ∷ armEntries a
 
 unfoldable pub viewRefusal : Arm → ℕ → ℕ → ℕ → ℕ
 viewRefusal a link velocities accelerations = lowest (viewEntries a link velocities accelerations)

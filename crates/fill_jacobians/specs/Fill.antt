@@ -11,7 +11,7 @@ use Rattle.floats.specs.Floats.{allFinite}
 use Rattle.arm.specs.declared.Arm.{Arm}
 use Rattle.arm.specs.declared.RowName.the-variants.{Velocities}
 use Rattle.arm.specs.Arm.{isLink, dofCountOf}
-use Rattle.arm.specs.HandedIn.{armRefusal}
+use Rattle.arm.specs.HandedIn.{armEntries}
 use Rattle.kinematics.specs.Blocks.{blockAt}
 use Rattle.unit_multibody_joint.specs.Outcome.{Outcome}
 use Rattle.unit_multibody_joint.specs.Refusals.{memoryFits, massFinite, rowUpTo}
@@ -28,8 +28,7 @@ fillEntries a link f tables mass j wj =
     unlessOf (leb tableSize (length tables) && memoryFits (dofCountOf a) mass j wj) 1
     ∷ unlessOf (isLink a link) 4
     ∷ unlessOf (forceFinite f && allFinite (blockAt link tables) && massFinite (dofCountOf a) mass) 7
-    ∷ armRefusal a
-    ∷ []
+    ∷ armEntries a
 
 unfoldable pub fillRefusal : Arm → ℕ → Force → List Float → List Float → ℕ → ℕ → ℕ
 fillRefusal a link f tables mass j wj = lowest (fillEntries a link f tables mass j wj)

@@ -20,7 +20,7 @@ use Rattle.arm.specs.Empty.{emptyArm}
 use Rattle.arm.specs.Arm.{linksOf, couplingsOf, tagsOf, parentsOf, masksOf, maskAt, startAt, dofCountOf, rowsOf}
 use Rattle.arm.specs.Edits.{dofAt}
 use Rattle.arm.specs.HandedIn.{unique, tagsUnique, parentsEarlier, couplingLinksFit, jointMasksFit, rootFits, couplingAxesFit}
-use Rattle.arm.specs.HandedIn.{jointFinite, linkFinite, couplingFinite, rowsFinite, angleFits, armEntries, armRefusal}
+use Rattle.arm.specs.HandedIn.{jointFinite, linkFinite, couplingFinite, rowsFinite, angleFits, armRules, armRefusal}
 use Rattle.unit_multibody_joint.specs.Outcome.{orThen, answered, solvedAnswer}
 use Rattle.unit_multibody_joint.specs.Rows.{positive, lowerBound, upperBound, limitBounds, inverse, rowOf, rowAnswer, unitRow, lhsAt}
 use Rattle.unit_multibody_joint.specs.Refusals.{rowRefusal}
@@ -34,7 +34,7 @@ unfolding answer ofBits toBits add sub mul div lt eq allBelow countBelow lastTha
     parentsFit wayTo branch isHead rank partCount nearestHead partOf isIn numberOf partByte numberByte splitMap refusalOf splitAnswer
     greatest reducedRow reduced columns permuted forward backward substituted solution newJoint fixedJoint unplaced emptyArm linksOf
     couplingsOf tagsOf parentsOf masksOf maskAt startAt dofCountOf rowsOf dofAt unique tagsUnique parentsEarlier couplingLinksFit
-    jointMasksFit rootFits couplingAxesFit jointFinite linkFinite couplingFinite rowsFinite angleFits armEntries armRefusal orThen answered
+    jointMasksFit rootFits couplingAxesFit jointFinite linkFinite couplingFinite rowsFinite angleFits armRules armRefusal orThen answered
     solvedAnswer positive lowerBound upperBound limitBounds inverse rowOf rowAnswer unitRow lhsAt rowRefusal
     axisAnswer limitAnswer
 all-hold = refl

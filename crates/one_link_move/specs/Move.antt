@@ -1,7 +1,7 @@
 -- The one-link move: what it refuses, what it answers, and what the tables then hold.
 use Prim.Native.Nat.{ℕ}
 use mathlib.Core.Bool.{Bool, true, not, _&&_}
-use mathlib.Core.List.{List, [], _∷_}
+use mathlib.Core.List.{List, _∷_}
 use lib.Dec.{eqb}
 use lib.Ieee.{Float}
 use Rattle.refusal.specs.Refusal.{unlessOf, lowest}
@@ -12,7 +12,7 @@ use Rattle.planar.specs.Poses.{rotationOf, isTurn, finitePoint, finitePose}
 use Rattle.topology.specs.Parents.{marks, parentIn}
 use Rattle.arm.specs.declared.Arm.{Arm}
 use Rattle.arm.specs.Arm.{isLink, parentsOf, maskAt}
-use Rattle.arm.specs.HandedIn.{armRefusal}
+use Rattle.arm.specs.HandedIn.{armEntries}
 use Rattle.kinematics.specs.State.{marked}
 use Rattle.full_working.specs.Outcome.{Outcome, unlessRefused, tablesFit, workedMarked}
 use Rattle.one_link.specs.Above.{aboveFinite}
@@ -65,8 +65,7 @@ moveRefusal a t link change =
     ∷ unlessOf (changeFinite change && aboveFinite link (parentIn (parentsOf a) link) t) 7
     ∷ unlessOf (turnsFit change) 8
     ∷ unlessOf (angleWithin change) 9
-    ∷ armRefusal a
-    ∷ [])
+    ∷ armEntries a)
 
 -- the link and those below it, rising, over what is kept
 unfoldable pub linkMoved : Arm → List Float → ℕ → Change → Outcome

@@ -1,7 +1,7 @@
 -- The root change (`update_root_type`), by a value that says free or fixed, and at which pose; then the full working.
 use Prim.Native.Nat.{ℕ, _-_}
 use mathlib.Core.Bool.{cond}
-use mathlib.Core.List.{List, [], _∷_, _++_, map}
+use mathlib.Core.List.{List, _∷_, _++_, map}
 use lib.Dec.{eqb}
 use lib.ListN.{take, drop}
 use lib.Ieee.{Float}
@@ -17,7 +17,7 @@ use Rattle.arm.specs.declared.Link.{Link}
 use Rattle.arm.specs.declared.Row.{Row}
 use Rattle.arm.specs.declared.Arm.{Arm}
 use Rattle.arm.specs.Setters.{withJoint, armWith}
-use Rattle.arm.specs.HandedIn.{armRefusal}
+use Rattle.arm.specs.HandedIn.{armEntries}
 use Rattle.root_change.specs.declared.Root.{Root}
 use Rattle.root_change.specs.declared.Root.the-variants.{Free, Fixed}
 use Rattle.full_working.specs.Outcome.{Outcome, unlessRefused, tablesFit, workedAll}
@@ -78,8 +78,7 @@ rootRefusal a t root =
     ∷ unlessOf (isLink a 0) 4
     ∷ unlessOf (finitePose (rootPose root)) 7
     ∷ unlessOf (isTurn (rotationOf (rootPose root))) 8
-    ∷ armRefusal a
-    ∷ [])
+    ∷ armEntries a)
 
 unfoldable pub changedRoot : Arm → List Float → Root → Outcome
 changedRoot a t root = unlessRefused (rootRefusal a t root) a t (workedAll a (rootChanged a root) t)

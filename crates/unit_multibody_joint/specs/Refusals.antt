@@ -13,7 +13,7 @@ use Rattle.arm.specs.declared.RowName.{RowName}
 use Rattle.arm.specs.declared.RowName.the-variants.{Frictions}
 use Rattle.arm.specs.Arm.{isLink, maskAt, dofCountOf, rowNumber, rowsOf}
 use Rattle.arm.specs.Edits.{dofAt}
-use Rattle.arm.specs.HandedIn.{armRefusal}
+use Rattle.arm.specs.HandedIn.{armEntries}
 use Rattle.unit_multibody_joint.specs.declared.Limits.{Limits}
 
 -- ---- what is needed: n by n floats of the mass matrix and n of each memory, n being the DoF count
@@ -34,8 +34,7 @@ rowEntries a link axis fine ordered mass j wj =
     ∷ unlessOf (isFree (maskAt a link) axis) 6
     ∷ unlessOf (fine && massFinite (dofCountOf a) mass) 7
     ∷ unlessOf ordered 10
-    ∷ armRefusal a
-    ∷ []
+    ∷ armEntries a
 
 unfoldable pub rowRefusal : Arm → ℕ → ℕ → Bool → Bool → List Float → ℕ → ℕ → ℕ
 rowRefusal a link axis fine ordered mass j wj = lowest (rowEntries a link axis fine ordered mass j wj)

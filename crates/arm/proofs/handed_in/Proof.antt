@@ -21,7 +21,7 @@ use Rattle.arm.specs.declared.HandedIn.{HandedIn}
 use Rattle.arm.specs.declared.LinkTests.{LinkTests}
 use Rattle.arm.specs.declared.CouplingTests.{CouplingTests}
 use Rattle.arm.specs.Arm.{liveLinks, tagsOf, parentsOf, masksOf, dofCountOf, entriesTo, rowsOf}
-use Rattle.arm.specs.HandedIn.{unique, tagsUnique, parentsEarlier, rootMaskFits, rootFits, rowsFinite, countsFit, armEntries, armRefusal}
+use Rattle.arm.specs.HandedIn.{unique, tagsUnique, parentsEarlier, rootMaskFits, rootFits, rowsFinite, countsFit, armRules, armRefusal}
 use Rattle.arm.proofs.Live.{masks-le, tags-live, parents-live, masks-live, dof-count-le}
 use Rattle.arm.proofs.Shape.{links-length}
 use borrow.Author.Needs.{needs}
@@ -76,7 +76,7 @@ module _ (a : Arm) (l : LinkTests) (c : CouplingTests) (unique earlier root rows
       → u₄ ≡ unlessOf (earlier && c .links) 4 → u₅ ≡ unlessOf ((l .masks && root) && c .axes) 5
       → u₇ ≡ unlessOf ((l .floats && c .floats) && rows) 7 → u₉ ≡ unlessOf (l .angles) 9
       → r ≡ lowest (u₂ ∷ u₃ ∷ u₄ ∷ u₅ ∷ u₇ ∷ u₉ ∷ []) → r ≡ armRefusal a
-  unfolding armRefusal armEntries linkTestsOf couplingTestsOf
+  unfolding armRefusal armRules linkTestsOf couplingTestsOf
   same p₂ p₃ p₄ p₅ p₇ p₉ q = rw (q, p₂, p₃, p₄, p₅, p₇, p₉, el, ec, e₃, e₄, e₅, e₇)
 
   found : (k : ℕ) → k ≡ armRefusal a → _≡_ {A = HandedIn} (record { refusal = k; tags = l .tags; parents = l .parents; masks = l .locked }) (handedIn a)
