@@ -3,7 +3,7 @@ use Rattle.floats.proofs.Sums.{sum-end, sum-more}
 use Rattle.floats.specs.Floats.{zero32, dot, sumFrom}
 use lib.ListN.{drop, length}
 use Prim.Native.Nat.{min, _-_, _≤_}
-use mathlib.Core.Path.{_∙_, _≡_, sym}
+use mathlib.Core.Path.{_∙_, _≡_, sym, refl}
 use native.Mathlib.Omega.{arith}
 use borrow.Author.Needs.{needs}
 use Rattle.floats.proofs.dot_product.Statement.{statement}
@@ -19,7 +19,7 @@ fewer-requires : tie.Need-fewer-requires Inv-loop μ-loop
 fewer-requires c κs = search needs
 
 loop-holds : tie.Need-loop-holds Inv-loop μ-loop
-loop-holds c = search needs
+loop-holds c = (search needs, search needs, refl)
 
 mul-sum : tie.Need-mul-sum Inv-loop μ-loop
 mul-sum c = search needs
