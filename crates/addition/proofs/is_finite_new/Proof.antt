@@ -15,7 +15,7 @@ is-finite-point-requires c κs = search needs
 
 returns : tie.Need-returns
 unfolding floatsFinite
-returns c = cc
+returns c = rw (c .is-finite-point .ensures, c .before .is-finite-pose2 .ensures, c .before .before .is-finite-pose .ensures)
 
 pub is-finite-new-spec : {M : Type 1} → statement M
 is-finite-new-spec =

@@ -24,7 +24,7 @@ unplaced-link-requires c κs = search needs
 
 returns : tie.Need-returns
 unfolding linkOf
-returns c = cc
+returns c = rw (c .unplaced-link .ensures, c .before .before .new-joint .ensures)
 
 pub link-of-spec : {M : Type 1} → statement M
 link-of-spec =

@@ -18,7 +18,7 @@ is-turn-requires-2 c κs = search needs
 
 returns : tie.Need-returns
 unfolding turnsFit
-returns c = cc
+returns c = rw (c .is-turn2 .ensures, c .before .rotation-of2 .ensures, c .before .before .is-turn .ensures, c .before .before .before .rotation-of .ensures)
 
 pub turns-fit-spec : {M : Type 1} → statement M
 turns-fit-spec =

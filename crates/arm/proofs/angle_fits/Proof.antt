@@ -12,7 +12,7 @@ is-beyond-requires c κs = search needs
 
 returns : tie.Need-returns
 unfolding angleFits
-returns c = cc
+returns c = rw (c .is-beyond .ensures)
 
 pub angle-fits-spec : {M : Type 1} → statement M
 angle-fits-spec = tie.close (tie.spec array-read-is-beyond is-beyond-requires returns)

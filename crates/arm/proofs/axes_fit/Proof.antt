@@ -18,7 +18,7 @@ is-axis-requires-2 c κs = search needs
 
 returns : tie.Need-returns
 unfolding couplingAxesFit
-returns c = cc
+returns c = rw (c .is-axis2 .ensures, c .before .before .is-axis .ensures)
 
 pub axes-fit-spec : {M : Type 1} → statement M
 axes-fit-spec =

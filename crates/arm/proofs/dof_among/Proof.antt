@@ -27,7 +27,7 @@ add-result c =
 
 returns : tie.Need-returns
 unfolding dofAmong
-returns c = cc (c .before .before .start-among .ensures, c .dofs-below .ensures, c .before .mask-among .ensures)
+returns c = rw (c .before .before .start-among .ensures, c .dofs-below .ensures, c .before .mask-among .ensures)
 
 pub dof-among-spec : {M : Type 1} → statement M
 dof-among-spec =

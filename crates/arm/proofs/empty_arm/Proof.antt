@@ -15,7 +15,7 @@ unplaced-link-requires c κs = search needs
 
 returns : tie.Need-returns
 unfolding emptyArm
-returns c = cc
+returns c = rw (c .unplaced-link .ensures, c .before .fixed .ensures, c .before .before .identity .ensures)
 
 pub empty-arm-spec : {M : Type 1} → statement M
 empty-arm-spec =

@@ -12,7 +12,7 @@ finite-requires-2 c κs = search needs
 
 returns : tie.Need-returns
 unfolding couplingFinite
-returns c = cc
+returns c = rw (c .finite2 .ensures, c .before .finite .ensures)
 
 pub is-finite-coupling-spec : {M : Type 1} → statement M
 is-finite-coupling-spec = tie.close (tie.spec finite-requires finite-requires-2 returns)

@@ -33,7 +33,17 @@ all-finite-requires-3 c κs = search needs
 
 returns : tie.Need-returns
 unfolding jointFinite
-returns c = cc
+returns c =
+    let at-is-finite-rotation : tie.After-is-finite-rotation = search in
+    let at-is-finite-pose : tie.After-is-finite-pose = search in
+    rw (
+      c .all-finite3 .ensures,
+      c .before .before .all-finite2 .ensures,
+      at-is-finite-rotation .is-finite-rotation .ensures,
+      at-is-finite-rotation .before .all-finite .ensures,
+      at-is-finite-rotation .before .before .before .is-finite-pose2 .ensures,
+      at-is-finite-pose .is-finite-pose .ensures,
+    )
 
 pub is-finite-joint-spec : {M : Type 1} → statement M
 is-finite-joint-spec =

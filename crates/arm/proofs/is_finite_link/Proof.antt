@@ -21,7 +21,15 @@ is-finite-point-requires-3 c κs = search needs
 
 returns : tie.Need-returns
 unfolding linkFinite
-returns c = cc
+returns c =
+    let at-is-finite-joint : tie.After-is-finite-joint = search in
+    rw (
+      c .is-finite-point3 .ensures,
+      c .before .is-finite-point2 .ensures,
+      c .before .before .is-finite-pose .ensures,
+      c .before .before .before .is-finite-point .ensures,
+      at-is-finite-joint .is-finite-joint .ensures,
+    )
 
 pub is-finite-link-spec : {M : Type 1} → statement M
 is-finite-link-spec =

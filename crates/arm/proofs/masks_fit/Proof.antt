@@ -24,7 +24,7 @@ is-mask-requires-3 c κs = search needs
 
 returns : tie.Need-returns
 unfolding jointMasksFit
-returns c = cc
+returns c = rw (c .is-mask3 .ensures, c .before .before .is-mask2 .ensures, c .before .before .before .before .is-mask .ensures)
 
 pub masks-fit-spec : {M : Type 1} → statement M
 masks-fit-spec =

@@ -9,7 +9,7 @@ identity-requires c κs = search needs
 
 returns : tie.Need-returns
 unfolding unplaced
-returns c = cc
+returns c = rw (c .identity .ensures)
 
 pub unplaced-link-spec : {M : Type 1} → statement M
 unplaced-link-spec = tie.close (tie.spec identity-requires returns)

@@ -45,7 +45,23 @@ lowest-requires c κs = search needs
 
 returns : tie.Need-returns
 unfolding couplingRefusal
-returns c = cc
+returns c =
+    let room : tie.After-unless = search in
+    let links : tie.After-unless2 = search in
+    let axes : tie.After-unless3 = search in
+    let floats : tie.After-unless4 = search in
+    rw (
+      ← room .unless .ensures,
+      ← links .unless2 .ensures,
+      ← axes .before .before .is-axis .ensures,
+      ← axes .before .is-axis2 .ensures,
+      ← axes .unless3 .ensures,
+      ← floats .before .before .finite .ensures,
+      ← floats .before .finite2 .ensures,
+      ← floats .unless4 .ensures,
+      ← c .before .before .arm-refusal .ensures,
+    )
+    (c .lowest .ensures)
 
 pub coupling-refusal-spec : {M : Type 1} → statement M
 coupling-refusal-spec =

@@ -30,7 +30,17 @@ lowest-requires c κs = search needs
 
 returns : tie.Need-returns
 unfolding springRefusal
-returns c = cc
+returns c =
+    let at-is-finite-spring : tie.After-is-finite-spring = search in
+    rw (
+      ← at-is-finite-spring .before .before .before .unless .ensures,
+      ← at-is-finite-spring .before .before .is-axis .ensures,
+      ← at-is-finite-spring .before .unless2 .ensures,
+      ← at-is-finite-spring .is-finite-spring .ensures,
+      ← c .before .before .before .unless3 .ensures,
+      ← c .before .before .arm-refusal .ensures,
+    )
+    (c .lowest .ensures)
 
 pub spring-refusal-spec : {M : Type 1} → statement M
 spring-refusal-spec =

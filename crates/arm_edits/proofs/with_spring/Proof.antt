@@ -12,7 +12,7 @@ with-joint-requires c κs = search needs
 
 returns : tie.Need-returns
 unfolding linkSpringSet
-returns c = cc
+returns c = rw (← c .before .set-spring .ensures) (c .with-joint .ensures)
 
 pub with-spring-spec : {M : Type 1} → statement M
 with-spring-spec = tie.close (tie.spec set-spring-requires with-joint-requires returns)

@@ -42,7 +42,23 @@ returns c =
     let start : tie.Start = search in
     let a = start .args .arm in
     let w = links-length a (start .good .0) in
-    cc (found-mask a w (start .args .handed) (start .pre) (start .args .link), found-refusal a w (start .args .handed) (start .pre))
+    let link : tie.After-unless = search in
+    let axis : tie.After-unless2 = search in
+    let free : tie.After-unless3 = search in
+    let handed = start .args .handed in
+    rw (
+      ← link .unless .ensures,
+      ← axis .before .is-axis .ensures,
+      ← axis .unless2 .ensures,
+      ← found-mask a w handed (start .pre) (start .args .link),
+      ← link .before .before .mask-among .ensures,
+      ← free .before .is-free .ensures,
+      ← free .unless3 .ensures,
+      ← c .before .before .before .finite .ensures,
+      ← c .before .before .unless4 .ensures,
+      ← found-refusal a w handed (start .pre),
+    )
+    (c .lowest .ensures)
 
 pub write-refusal-spec : {M : Type 1} → statement M
 write-refusal-spec =

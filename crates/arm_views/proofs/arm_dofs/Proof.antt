@@ -15,7 +15,7 @@ answer-count-requires c κs = search needs
 
 returns : tie.Need-returns
 unfolding dofsAnswer
-returns c = cc
+returns c = rw (c .answer-count .ensures, c .before .dof-count .ensures, c .before .before .arm-refusal .ensures)
 
 pub arm-dofs-spec : {M : Type 1} → statement M
 arm-dofs-spec =

@@ -24,7 +24,10 @@ lowest-requires c κs = search needs
 
 returns : tie.Need-returns
 unfolding branchRefusal
-returns c = cc
+returns c =
+    let at-unless : tie.After-unless = search in
+    rw (← at-unless .before .branch-needed .ensures, ← at-unless .unless .ensures, ← c .before .before .before .unless2 .ensures, ← c .before .before .arm-refusal .ensures)
+    (c .lowest .ensures)
 
 pub branch-refusal-spec : {M : Type 1} → statement M
 branch-refusal-spec =

@@ -15,7 +15,7 @@ answer-count-requires c κs = search needs
 
 returns : tie.Need-returns
 unfolding startAnswer
-returns c = cc
+returns c = rw (c .answer-count .ensures, c .before .start-of .ensures, c .before .before .start-refusal .ensures)
 
 pub link-start-spec : {M : Type 1} → statement M
 link-start-spec =

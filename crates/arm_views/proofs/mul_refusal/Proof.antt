@@ -33,7 +33,18 @@ lowest-requires c κs = search needs
 
 returns : tie.Need-returns
 unfolding mulRefusal
-returns c = cc
+returns c =
+    let room : tie.After-unless = search in
+    rw (
+      ← room .before .before .mask-at .ensures,
+      ← room .before .dofs .ensures,
+      ← room .unless .ensures,
+      ← c .before .before .before .before .before .unless2 .ensures,
+      ← c .before .before .before .before .is-finite-part .ensures,
+      ← c .before .before .before .unless3 .ensures,
+      ← c .before .before .arm-refusal .ensures,
+    )
+    (c .lowest .ensures)
 
 pub mul-refusal-spec : {M : Type 1} → statement M
 mul-refusal-spec =

@@ -24,7 +24,10 @@ lowest-requires c κs = search needs
 
 returns : tie.Need-returns
 unfolding springRefusal
-returns c = cc
+returns c =
+    let at-is-axis : tie.After-is-axis = search in
+    rw (← at-is-axis .before .unless .ensures, ← at-is-axis .is-axis .ensures, ← c .before .before .before .unless2 .ensures, ← c .before .before .arm-refusal .ensures)
+    (c .lowest .ensures)
 
 pub spring-refusal-spec : {M : Type 1} → statement M
 spring-refusal-spec =

@@ -18,7 +18,7 @@ lowest-requires c κs = search needs
 
 returns : tie.Need-returns
 unfolding startRefusal
-returns c = cc
+returns c = rw (← c .before .before .before .unless .ensures, ← c .before .before .arm-refusal .ensures) (c .lowest .ensures)
 
 pub start-refusal-spec : {M : Type 1} → statement M
 start-refusal-spec =

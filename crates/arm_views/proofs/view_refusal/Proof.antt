@@ -24,7 +24,10 @@ lowest-requires c κs = search needs
 
 returns : tie.Need-returns
 unfolding viewRefusal
-returns c = cc
+returns c =
+    let at-unless : tie.After-unless = search in
+    rw (← at-unless .before .dof-count .ensures, ← at-unless .unless .ensures, ← c .before .before .before .unless2 .ensures, ← c .before .before .arm-refusal .ensures)
+    (c .lowest .ensures)
 
 pub view-refusal-spec : {M : Type 1} → statement M
 view-refusal-spec =

@@ -54,7 +54,21 @@ lowest-requires c κs = search needs
 
 returns : tie.Need-returns
 unfolding fillRefusal
-returns c = cc
+returns c =
+    let at-unless2 : tie.After-unless2 = search in
+    let at-is-finite-part : tie.After-is-finite-part = search in
+    rw (
+      ← at-is-finite-part .before .before .before .dof-count .ensures,
+      ← at-is-finite-part .before .before .memory-fits .ensures,
+      ← at-is-finite-part .before .is-finite-force .ensures,
+      ← at-is-finite-part .is-finite-part .ensures,
+      ← at-unless2 .before .before .before .is-finite-part2 .ensures,
+      ← at-unless2 .before .before .unless .ensures,
+      ← at-unless2 .unless2 .ensures,
+      ← c .before .before .before .unless3 .ensures,
+      ← c .before .before .arm-refusal .ensures,
+    )
+    (c .lowest .ensures)
 
 pub fill-refusal-spec : {M : Type 1} → statement M
 fill-refusal-spec =

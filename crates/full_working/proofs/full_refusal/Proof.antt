@@ -18,7 +18,7 @@ lower-requires c κs = search needs
 
 returns : tie.Need-returns
 unfolding fullRefusal
-returns c = cc
+returns c = rw (c .lower .ensures, c .before .arm-refusal .ensures, c .before .before .unless .ensures, c .before .before .before .tables-fit .ensures)
 
 pub full-refusal-spec : {M : Type 1} → statement M
 full-refusal-spec =

@@ -18,7 +18,11 @@ same-length c = search needs
 
 returns : tie.Need-returns
 unfolding ownAdded
-returns c = cc
+returns c =
+    let turn : tie.After-add-axis3 = search in
+    let y : tie.After-add-axis2 = search in
+    let x : tie.After-add-axis = search in
+    rw (turn .add-axis3 .ensures, y .add-axis2 .ensures, x .add-axis .ensures)
 
 pub add-own-columns-spec : {M : Type 1} → statement M
 add-own-columns-spec =

@@ -15,7 +15,7 @@ is-finite-point-requires-2 c κs = search needs
 
 returns : tie.Need-returns
 unfolding finitePlace
-returns c = cc
+returns c = rw (c .is-finite-point2 .ensures, c .before .is-finite-point .ensures, c .before .before .is-finite-pose .ensures)
 
 pub is-finite-place-spec : {M : Type 1} → statement M
 is-finite-place-spec =

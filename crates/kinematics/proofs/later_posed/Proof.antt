@@ -39,7 +39,22 @@ rotation-product-requires c κs = search needs
 
 returns : tie.Need-returns
 unfolding laterPosed
-returns c = cc
+returns c =
+    let at-difference : tie.After-difference = search in
+    let at-placed : tie.After-placed = search in
+    rw (
+      c .rotation-product .ensures,
+      c .before .rotation-of2 .ensures,
+      c .before .before .rotation-of .ensures,
+      c .before .before .before .difference2 .ensures,
+      at-difference .difference .ensures,
+      at-difference .before .placed3 .ensures,
+      at-difference .before .before .placed2 .ensures,
+      at-difference .before .before .before .translation-of .ensures,
+      at-placed .placed .ensures,
+      at-placed .before .product .ensures,
+      at-placed .before .before .body-to-parent .ensures,
+    )
 
 pub later-posed-spec : {M : Type 1} → statement M
 later-posed-spec =

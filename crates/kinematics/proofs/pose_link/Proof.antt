@@ -9,14 +9,14 @@ later-posed-requires c κs = search needs
 
 returns : tie.Need-returns
 unfolding posedOf
-returns c = rw (c .before .if1 .taken) (cc)
+returns c = rw (c .before .if1 .taken) (c .later-posed .ensures)
 
 root-posed-requires : tie.Need-root-posed-requires
 root-posed-requires c κs = search needs
 
 returns-2 : tie.Need-returns-2
 unfolding posedOf
-returns-2 c = rw (c .before .if1 .left) (cc)
+returns-2 c = rw (c .before .if1 .left) (c .root-posed .ensures)
 
 pub pose-link-spec : {M : Type 1} → statement M
 pose-link-spec = tie.close (tie.spec later-posed-requires returns root-posed-requires returns-2)

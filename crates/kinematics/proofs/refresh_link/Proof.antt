@@ -22,7 +22,16 @@ same-length : tie.Need-same-length
 same-length c = search needs
 
 returns : tie.Need-returns
-returns c = record { own = cc; place = cc; test = cc }
+returns c =
+    let posed : tie.After-pose-link = search in
+    let worked : tie.After-work-block = search in
+    let placed : tie.After-with-place = search in
+    let own = rw (posed .pose-link .ensures) at (worked .work-block .ensures) in
+    record {
+      own = own;
+      place = rw (placed .with-place .ensures, posed .pose-link .ensures);
+      test = rw (c .all-finite .ensures, c .before .before .is-finite-place .ensures, posed .pose-link .ensures);
+    }
 
 pub refresh-link-spec : {M : Type 1} → statement M
 refresh-link-spec =

@@ -27,7 +27,17 @@ rotation-product-requires c κs = search needs
 
 returns : tie.Need-returns
 unfolding rootPosed
-returns c = cc
+returns c =
+    let at-placed : tie.After-placed = search in
+    rw (
+      c .rotation-product .ensures,
+      c .before .rotation-of .ensures,
+      c .before .before .difference .ensures,
+      c .before .before .before .placed2 .ensures,
+      at-placed .placed .ensures,
+      at-placed .before .translation-of .ensures,
+      at-placed .before .before .body-to-parent .ensures,
+    )
 
 pub root-posed-spec : {M : Type 1} → statement M
 root-posed-spec =

@@ -18,7 +18,11 @@ same-length c = search needs
 
 returns : tie.Need-returns
 unfolding blockFrom
-returns c = cc
+returns c =
+    let last : tie.After-shift-block2 = search in
+    let own : tie.After-add-own-columns = search in
+    let first : tie.After-shift-block = search in
+    rw (last .shift-block2 .ensures, own .add-own-columns .ensures, first .shift-block .ensures)
 
 pub work-block-spec : {M : Type 1} → statement M
 work-block-spec =

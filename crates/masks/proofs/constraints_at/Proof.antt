@@ -25,7 +25,17 @@ add-result c = search needs
 
 returns : tie.Need-returns
 unfolding constraintsAt
-returns c = (cc, omega arith)
+returns c =
+    let first : tie.After-one-if = search in (
+      rw (
+        c .one-if2 .ensures .0,
+        c .before .bit2 .ensures,
+        first .one-if .ensures .0,
+        first .before .bit .ensures,
+        first .before .before .free .ensures,
+      ),
+      omega arith,
+    )
 
 pub constraints-at-spec : {M : Type 1} → statement M
 constraints-at-spec =

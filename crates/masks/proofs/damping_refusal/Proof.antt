@@ -25,7 +25,10 @@ lowest-requires c κs = search needs
 
 returns : tie.Need-returns
 unfolding dampingRefusal dofsOf
-returns c = cc
+returns c =
+    let at-unless : tie.After-unless = search in
+    rw (← at-unless .before .free-below .ensures .0, ← at-unless .unless .ensures, ← c .before .before .before .is-mask .ensures, ← c .before .before .unless2 .ensures)
+    (c .lowest .ensures)
 
 pub damping-refusal-spec : {M : Type 1} → statement M
 damping-refusal-spec =

@@ -21,14 +21,22 @@ same-length c = search needs
 
 returns : tie.Need-returns
 unfolding dampingAnswer
-returns c = filled-none _ _ _ _ _ _ (sym (c .before .before .before .before .before .before .damping-refusal .ensures) ∙ c .before .before .before .before .before .if1 .taken) (cc) (c .before .before .before .fill-damping .ensures .1)
+returns c =
+    let tested : tie.After-damping-refusal = search in
+    let done : tie.After-fill-damping = search in
+    filled-none _ _ _ _ _ _
+    (sym (tested .damping-refusal .ensures) ∙ done .before .before .if1 .taken)
+    (rw (c .answer-count .ensures, done .fill-damping .ensures .0))
+    (done .fill-damping .ensures .1)
 
 answer-count-requires-2 : tie.Need-answer-count-requires-2
 answer-count-requires-2 c κs = search needs
 
 returns-2 : tie.Need-returns-2
 unfolding dampingAnswer
-returns-2 c = filled-some _ _ 0 _ _ _ (λ z. c .before .if1 .left (c .before .before .damping-refusal .ensures ∙ z)) (cc)
+returns-2 c =
+    let tested : tie.After-damping-refusal = search in
+    filled-some _ _ 0 _ _ _ (λ z. c .before .if1 .left (tested .damping-refusal .ensures ∙ z)) (rw (c .answer-count2 .ensures, tested .damping-refusal .ensures))
 
 pub default-damping-spec : {M : Type 1} → statement M
 default-damping-spec =

@@ -19,7 +19,7 @@ answer-count-requires c κs = search needs
 
 returns : tie.Need-returns
 unfolding dofsAnswer dofsOf
-returns c = cc
+returns c = rw (c .answer-count .ensures, c .before .free-below .ensures .0, c .before .before .unless .ensures, c .before .before .before .is-mask .ensures)
 
 pub dof-count-spec : {M : Type 1} → statement M
 dof-count-spec =

@@ -21,7 +21,9 @@ answer-count-requires c κs = search needs
 
 returns : tie.Need-returns
 unfolding belowAnswer
-returns c = cc
+returns c =
+    let at-is-mask : tie.After-is-mask = search in
+    rw (c .answer-count .ensures, c .before .free-below .ensures .0, c .before .before .unless .ensures, c .before .before .before .is-axis .ensures, at-is-mask .is-mask .ensures)
 
 pub dof-count-below-spec : {M : Type 1} → statement M
 dof-count-below-spec =

@@ -36,13 +36,27 @@ returns : tie.Need-returns
 returns c = (below-first _ _ (c .match .keys1), omega arith)
 
 returns-2 : tie.Need-returns-2
-returns-2 c = (below-second _ _ (c .match .keys2) (cc), omega arith)
+returns-2 c =
+    let x : tie.After-one-if = search in
+    (below-second _ _ (c .match .keys2) (rw (x .one-if .ensures .0, x .before .free .ensures)), omega arith)
 
 returns-3 : tie.Need-returns-3
-returns-3 c = (below-third _ _ (c .match .keys3) (cc) (cc), omega arith)
+returns-3 c =
+    let x : tie.After-one-if = search in
+    let y : tie.After-one-if2 = search in
+    (below-third _ _ (c .match .keys3) (rw (x .one-if .ensures .0, x .before .free .ensures)) (rw (y .one-if2 .ensures .0, y .before .free2 .ensures)), omega arith)
 
 returns-4 : tie.Need-returns-4
-returns-4 c = (below-any _ _ (c .match .rest .0 .0 .1) (c .match .rest .0 .1) (c .match .rest .1) (cc) (cc) (cc), omega arith)
+returns-4 c =
+    let x : tie.After-one-if = search in
+    let y : tie.After-one-if2 = search in
+    let angle : tie.After-one-if3 = search in (
+      below-any _ _ (c .match .rest .0 .0 .1) (c .match .rest .0 .1) (c .match .rest .1)
+          (rw (x .one-if .ensures .0, x .before .free .ensures))
+          (rw (y .one-if2 .ensures .0, y .before .free2 .ensures))
+          (rw (angle .one-if3 .ensures .0, angle .before .free3 .ensures)),
+      omega arith,
+    )
 
 pub free-below-spec : {M : Type 1} → statement M
 free-below-spec =

@@ -37,7 +37,18 @@ answer-count-requires c κs = search needs
 
 returns : tie.Need-returns
 unfolding constraintsAnswer constraintsOf
-returns c = cc
+returns c =
+    let at-unless : tie.After-unless = search in
+    rw (
+      c .answer-count .ensures,
+      c .before .constraints-at3 .ensures .0,
+      c .before .before .constraints-at2 .ensures .0,
+      c .before .before .before .constraints-at .ensures .0,
+      at-unless .unless .ensures,
+      at-unless .before .is-mask3 .ensures,
+      at-unless .before .before .is-mask2 .ensures,
+      at-unless .before .before .before .is-mask .ensures,
+    )
 
 pub num-velocity-constraints-spec : {M : Type 1} → statement M
 num-velocity-constraints-spec =

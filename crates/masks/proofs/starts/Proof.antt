@@ -22,14 +22,22 @@ same-length c = search needs
 
 returns : tie.Need-returns
 unfolding startsAnswer
-returns c = filled-none _ _ _ _ _ _ (sym (c .before .before .before .before .before .before .starts-refusal .ensures) ∙ c .before .before .before .before .before .if1 .taken) (cc) (c .before .before .before .fill-starts .ensures .1)
+returns c =
+    let tested : tie.After-starts-refusal = search in
+    let done : tie.After-fill-starts = search in
+    filled-none _ _ _ _ _ _
+    (sym (tested .starts-refusal .ensures) ∙ done .before .before .if1 .taken)
+    (rw (c .answer-count .ensures, done .fill-starts .ensures .0))
+    (done .fill-starts .ensures .1)
 
 answer-count-requires-2 : tie.Need-answer-count-requires-2
 answer-count-requires-2 c κs = search needs
 
 returns-2 : tie.Need-returns-2
 unfolding startsAnswer
-returns-2 c = filled-some _ _ 0 _ _ _ (λ z. c .before .if1 .left (c .before .before .starts-refusal .ensures ∙ z)) (cc)
+returns-2 c =
+    let tested : tie.After-starts-refusal = search in
+    filled-some _ _ 0 _ _ _ (λ z. c .before .if1 .left (tested .starts-refusal .ensures ∙ z)) (rw (c .answer-count2 .ensures, tested .starts-refusal .ensures))
 
 pub starts-spec : {M : Type 1} → statement M
 starts-spec =

@@ -24,7 +24,10 @@ lowest-requires c κs = search needs
 
 returns : tie.Need-returns
 unfolding startsRefusal
-returns c = cc
+returns c =
+    let at-unless2 : tie.After-unless2 = search in
+    rw (← at-unless2 .before .unless .ensures, ← at-unless2 .unless2 .ensures, ← c .before .before .before .all-masks .ensures, ← c .before .before .unless3 .ensures)
+    (c .lowest .ensures)
 
 pub starts-refusal-spec : {M : Type 1} → statement M
 starts-refusal-spec =

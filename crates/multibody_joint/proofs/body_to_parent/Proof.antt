@@ -24,7 +24,16 @@ product-requires-2 c κs = search needs
 
 returns : tie.Need-returns
 unfolding bodyToParent slidPose
-returns c = cc
+returns c =
+    let at-inverse : tie.After-inverse = search in
+    rw (
+      c .product2 .ensures,
+      c .before .slid2 .ensures,
+      c .before .before .slid .ensures,
+      c .before .before .before .product .ensures,
+      at-inverse .inverse .ensures,
+      at-inverse .before .pose-of .ensures,
+    )
 
 pub body-to-parent-spec : {M : Type 1} → statement M
 body-to-parent-spec =

@@ -12,7 +12,7 @@ new-joint-requires c κs = search needs
 
 returns : tie.Need-returns
 unfolding fixedJoint
-returns c = cc
+returns c = rw (c .new-joint .ensures, c .before .identity .ensures)
 
 pub fixed-spec : {M : Type 1} → statement M
 fixed-spec = tie.close (tie.spec identity-requires new-joint-requires returns)

@@ -21,7 +21,15 @@ with-motion-requires c κs = search needs
 
 returns : tie.Need-returns
 unfolding freeJoint
-returns c = cc
+returns c =
+    let at-identity : tie.After-identity = search in
+    rw (
+      c .with-motion .ensures,
+      c .before .rotation-of .ensures,
+      c .before .before .new-joint .ensures,
+      c .before .before .before .identity2 .ensures,
+      at-identity .identity .ensures,
+    )
 
 pub free-spec : {M : Type 1} → statement M
 free-spec =

@@ -21,7 +21,15 @@ with-motion-requires c κs = search needs
 
 returns : tie.Need-returns
 unfolding integrated
-returns c = cc
+returns c =
+    let at-integrated-at : tie.After-integrated-at = search in
+    rw (
+      c .with-motion .ensures,
+      c .before .renewed-rotation .ensures,
+      c .before .before .integrated-at3 .ensures,
+      c .before .before .before .integrated-at2 .ensures,
+      at-integrated-at .integrated-at .ensures,
+    )
 
 pub integrate-spec : {M : Type 1} → statement M
 integrate-spec =

@@ -15,7 +15,7 @@ on-axis-requires-3 c κs = search needs
 
 returns : tie.Need-returns
 unfolding onAxes
-returns c = cc
+returns c = rw (c .on-axis3 .ensures, c .before .on-axis2 .ensures, c .before .before .on-axis .ensures)
 
 pub jacobian-mul-coordinates-spec : {M : Type 1} → statement M
 jacobian-mul-coordinates-spec =

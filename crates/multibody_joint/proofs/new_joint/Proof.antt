@@ -12,7 +12,7 @@ rotation-of-requires c κs = search needs
 
 returns : tie.Need-returns
 unfolding newJoint
-returns c = cc
+returns c = rw (c .rotation-of .ensures, c .before .identity .ensures)
 
 pub new-joint-spec : {M : Type 1} → statement M
 new-joint-spec = tie.close (tie.spec identity-requires rotation-of-requires returns)

@@ -15,7 +15,7 @@ with-motion-requires c κs = search needs
 
 returns : tie.Need-returns
 unfolding freePosSet
-returns c = cc
+returns c = rw (c .with-motion .ensures, c .before .rotation-of .ensures)
 
 pub set-free-pos-spec : {M : Type 1} → statement M
 set-free-pos-spec =

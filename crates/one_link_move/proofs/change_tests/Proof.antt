@@ -50,17 +50,26 @@ returns : tie.Need-returns
 unfolding testsOf
 returns c =
     let at-change : tie.After-change = search in
-    rw (at-change .change .given .1) (cc)
+    rw (at-change .change .given .1, c .is-beyond .ensures, c .before .finite .ensures, c .before .before .is-free .ensures, c .before .before .before .is-axis .ensures)
 
 returns-2 : tie.Need-returns-2
 unfolding testsOf
 returns-2 c =
     let at-change2 : tie.After-change2 = search in
-    rw (at-change2 .change2 .given .1) (cc)
+    let floats : tie.After-is-finite-pose2 = search in
+    rw (
+      at-change2 .change2 .given .1,
+      c .is-turn2 .ensures,
+      c .before .rotation-of2 .ensures,
+      c .before .before .is-turn .ensures,
+      c .before .before .before .rotation-of .ensures,
+      floats .is-finite-pose2 .ensures,
+      floats .before .is-finite-pose .ensures,
+    )
 
 returns-3 : tie.Need-returns-3
 unfolding testsOf
-returns-3 c = rw (c .before .before .change3 .given .1) (cc)
+returns-3 c = rw (c .before .before .change3 .given .1, c .is-finite-point .ensures)
 
 pub change-tests-spec : {M : Type 1} → statement M
 change-tests-spec =

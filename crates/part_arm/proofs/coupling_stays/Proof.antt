@@ -18,7 +18,7 @@ goes-on-requires-2 c κs = search needs
 
 returns : tie.Need-returns
 unfolding couplingStays
-returns c = cc
+returns c = rw (c .goes-on2 .ensures, c .before .before .goes-on .ensures)
 
 pub coupling-stays-spec : {M : Type 1} → statement M
 coupling-stays-spec =

@@ -18,7 +18,7 @@ number-in-requires-2 c κs = search needs
 
 returns : tie.Need-returns
 unfolding newCoupling
-returns c = cc
+returns c = rw (c .number-in2 .ensures, c .before .before .number-in .ensures)
 
 pub new-coupling-spec : {M : Type 1} → statement M
 new-coupling-spec =

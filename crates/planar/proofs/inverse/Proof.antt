@@ -15,7 +15,7 @@ pose-of-requires c κs = search needs
 
 returns : tie.Need-returns
 unfolding poseInverse
-returns c = cc
+returns c = rw (c .pose-of .ensures, c .before .before .before .turned .ensures, c .before .before .before .before .translation-of .ensures)
 
 pub inverse-spec : {M : Type 1} → statement M
 inverse-spec =

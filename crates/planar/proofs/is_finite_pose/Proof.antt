@@ -18,7 +18,8 @@ is-finite-point-requires c κs = search needs
 
 returns : tie.Need-returns
 unfolding finitePose
-returns c = cc
+returns c =
+    rw (c .is-finite-point .ensures, c .before .translation-of .ensures, c .before .before .is-finite-rotation .ensures, c .before .before .before .rotation-of .ensures)
 
 pub is-finite-pose-spec : {M : Type 1} → statement M
 is-finite-pose-spec =

@@ -12,7 +12,7 @@ turned-requires c κs = search needs
 
 returns : tie.Need-returns
 unfolding placedBy
-returns c = cc
+returns c = rw (c .before .before .before .before .turned .ensures, c .before .before .before .before .before .rotation-of .ensures)
 
 pub placed-spec : {M : Type 1} → statement M
 placed-spec = tie.close (tie.spec rotation-of-requires turned-requires returns)

@@ -35,7 +35,17 @@ signed-requires c κs = search needs
 
 returns : tie.Need-returns
 unfolding rotationAt
-returns c = cc
+returns c =
+    let at-reduced : tie.After-reduced = search in
+    rw (
+      c .signed .ensures,
+      c .before .quarter .ensures,
+      c .before .before .sine .ensures,
+      c .before .before .before .cosine .ensures,
+      at-reduced .reduced .ensures,
+      at-reduced .before .before .quarter-turns .ensures,
+      at-reduced .before .before .before .magnitude .ensures,
+    )
 
 pub rotation-at-spec : {M : Type 1} → statement M
 rotation-at-spec =

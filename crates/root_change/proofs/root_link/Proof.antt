@@ -12,7 +12,7 @@ with-joint-requires c κs = search needs
 
 returns : tie.Need-returns
 unfolding rootLink
-returns c = cc
+returns c = rw (c .with-joint .ensures, c .before .root-joint .ensures)
 
 pub root-link-spec : {M : Type 1} → statement M
 root-link-spec = tie.close (tie.spec root-joint-requires with-joint-requires returns)

@@ -45,7 +45,17 @@ returns : tie.Need-returns
 returns c =
     let s : tie.Start = search in
     let cut : tie.After-fewer = search in
-    cc (refusal-is (s .args .n) (cut .fewer .result) (s .args .matrix .now) (s .args .right .now) (s .args .room) (cut .fewer .ensures))
+    let fits : tie.After-is-finite-part = search in
+    rw (
+      c .lowest .ensures,
+      c .before .before .unless3 .ensures,
+      c .before .before .before .unless2 .ensures,
+      c .before .before .before .before .unless .ensures,
+      c .before .before .before .before .before .is-finite-part2 .ensures,
+      fits .is-finite-part .ensures,
+      fits .before .square-fits .ensures,
+    )
+    (refusal-is (s .args .n) (cut .fewer .result) (s .args .matrix .now) (s .args .right .now) (s .args .room) (cut .fewer .ensures))
 
 pub refuse-spec : {M : Type 1} → statement M
 refuse-spec =

@@ -86,7 +86,7 @@ returns-3 c =
     let s = start (few .before) .args in
     let w = enough (few .before) in
     let fits = substitute-fits (s .n) (s .factors .now) (s .swaps .now) (s .right .now) (s .result .now) (w .0) (w .1) (w .2) (w .3) (few .if2 .left) in
-    c .before .before .substitute-whole .ensures ∙ rw (sub-zero (s .n * s .n), sub-zero (s .n)) (sym fits)
+    rw (c .before .before .substitute-whole .ensures, sub-zero (s .n * s .n), sub-zero (s .n)) (sym fits)
 
 pub substitute-spec : {M : Type 1} → statement M
 substitute-spec =

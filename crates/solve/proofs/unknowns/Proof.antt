@@ -23,7 +23,17 @@ same-length c = search needs
 returns : tie.Need-returns
 returns c =
     let s : tie.Start = search in
-    cc (overlaid-whole (s .args .x .now) (s .args .right .now) (s .pre .3 ∙ sym (s .pre .2)))
+    let back : tie.After-substitute-backward = search in
+    let forth : tie.After-substitute-forward = search in
+    let swapped : tie.After-permute = search in
+    let copied : tie.After-copy = search in
+    rw (
+      back .substitute-backward .ensures,
+      forth .substitute-forward .ensures,
+      swapped .permute .ensures,
+      copied .copy .ensures,
+      overlaid-whole (s .args .x .now) (s .args .right .now) (s .pre .3 ∙ sym (s .pre .2)),
+    )
 
 pub unknowns-spec : {M : Type 1} → statement M
 unknowns-spec =

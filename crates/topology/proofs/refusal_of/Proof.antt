@@ -27,7 +27,16 @@ lowest-requires c κs = search needs
 
 returns : tie.Need-returns
 unfolding refusalOf
-returns c = cc
+returns c =
+    let at-unless3 : tie.After-unless3 = search in
+    rw (
+      ← at-unless3 .before .before .unless .ensures,
+      ← at-unless3 .before .unless2 .ensures,
+      ← at-unless3 .unless3 .ensures,
+      ← c .before .before .before .parents-fit .ensures,
+      ← c .before .before .unless4 .ensures,
+    )
+    (c .lowest .ensures)
 
 pub refusal-of-spec : {M : Type 1} → statement M
 refusal-of-spec =

@@ -18,7 +18,9 @@ upper-bound-requires c κs = search needs
 
 returns : tie.Need-returns
 unfolding limitBounds
-returns c = cc
+returns c =
+    let at-positive-part : tie.After-positive-part = search in
+    rw (c .before .upper-bound .ensures, c .before .before .lower-bound .ensures, c .before .before .before .positive-part2 .ensures, at-positive-part .positive-part .ensures)
 
 pub limit-bounds-spec : {M : Type 1} → statement M
 limit-bounds-spec =

@@ -9,7 +9,7 @@ inv-requires c κs = search needs
 
 returns : tie.Need-returns
 unfolding rowOf
-returns c = cc
+returns c = rw (c .inv .ensures)
 
 pub row-of-spec : {M : Type 1} → statement M
 row-of-spec = tie.close (tie.spec inv-requires returns)

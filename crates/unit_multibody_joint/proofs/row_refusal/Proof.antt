@@ -63,7 +63,26 @@ lowest-requires c κs = search needs
 
 returns : tie.Need-returns
 unfolding rowRefusal
-returns c = cc
+returns c =
+    let at-unless5 : tie.After-unless5 = search in
+    let at-unless3 : tie.After-unless3 = search in
+    let at-unless : tie.After-unless = search in
+    rw (
+      ← at-unless .before .before .before .dof-count .ensures,
+      ← at-unless .before .before .mask-at .ensures,
+      ← at-unless .before .memory-fits .ensures,
+      ← at-unless .unless .ensures,
+      ← at-unless3 .before .before .unless2 .ensures,
+      ← at-unless3 .before .is-axis .ensures,
+      ← at-unless3 .unless3 .ensures,
+      ← at-unless5 .before .before .before .is-free .ensures,
+      ← at-unless5 .before .before .unless4 .ensures,
+      ← at-unless5 .before .is-finite-part .ensures,
+      ← at-unless5 .unless5 .ensures,
+      ← c .before .before .before .unless6 .ensures,
+      ← c .before .before .arm-refusal .ensures,
+    )
+    (c .lowest .ensures)
 
 pub row-refusal-spec : {M : Type 1} → statement M
 row-refusal-spec =

@@ -12,7 +12,7 @@ with-joint-requires c κs = search needs
 
 returns : tie.Need-returns
 unfolding linkIntegrated
-returns c = cc
+returns c = rw (c .with-joint .ensures, c .before .integrate .ensures)
 
 pub step-link-spec : {M : Type 1} → statement M
 step-link-spec = tie.close (tie.spec integrate-requires with-joint-requires returns)
