@@ -22,7 +22,6 @@ use Rattle.masks.specs.Starts.{totalOf, startOf}
 use Rattle.masks.proofs.Laws.{dofs-le}
 use Rattle.arm.specs.declared.Link.{Link}
 use Rattle.arm.specs.declared.Row.{Row}
-use Rattle.arm.specs.declared.RowName.{RowName}
 use Rattle.arm.specs.declared.Arm.{Arm}
 use Rattle.arm.specs.Arm.{couplingsOf, rowIn, ownPart, masksOf, maskAt, startAt, dofCountOf, rowNumber, entriesOf, entriesTo, noLink, linkAt, lockedOf}
 use Rattle.arm.proofs.Edits.{row-there}

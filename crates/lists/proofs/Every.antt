@@ -19,9 +19,6 @@ module _ {A : Type 0} (test : A → Bool) where
   abbrev pub Tested : List A → ℕ → Bool → Type 0
   Tested xs i ok = every test xs ≡ (ok && every test (drop i xs))
 
-  pub tested-none : (xs : List A) → Tested xs 0 true
-  tested-none xs = refl
-
   pub tested-more : (xs : List A) (i : ℕ) (ok r : Bool) (d : A) → i < length xs → r ≡ test (getD xs i d) → Tested xs i ok
       → Tested xs (i + 1) (ok && r)
   tested-more xs i ok r d h e t = t ∙ rw (add-one, drop-cons xs i d h, e) (sym (and-assoc ok _ _))

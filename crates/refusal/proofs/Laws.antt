@@ -1,6 +1,6 @@
 -- `lowest` is the lowest: none where every one is none, else one of the list that no other undercuts. By the list's length.
 use Prim.Native.Nat.{ℕ, zero, suc, _-_, _≤_, _<_}
-use mathlib.Core.Path.{_≡_, refl, sym, ap₂, subst, _∙_}
+use mathlib.Core.Path.{_≡_, refl, sym, subst, _∙_}
 use mathlib.Core.Logic.{_⊎_, inl, inr}
 use mathlib.Core.List.{List, [], _∷_}
 use native.Mathlib.Nat.{eq-zero-or-pos}
@@ -36,9 +36,6 @@ unfolding lowerOf
 is-least zero b h l = refl
 is-least (suc a) zero h l = absurd (h refl)
 is-least (suc a) (suc b) h l = omega arith
-
-pub lowered : {r a b x y : ℕ} → r ≡ lowerOf a b → a ≡ x → b ≡ y → r ≡ lowerOf x y
-lowered e p q = e ∙ ap₂ lowerOf p q
 
 -- ---- the lowest of a list
 

@@ -23,13 +23,8 @@ returns : tie.Need-returns
 unfolding linkFinite
 returns c =
     let at-is-finite-joint : tie.After-is-finite-joint = search in
-    rw (
-      c .is-finite-point3 .ensures,
-      c .before .is-finite-point2 .ensures,
-      c .before .before .is-finite-pose .ensures,
-      c .before .before .before .is-finite-point .ensures,
-      at-is-finite-joint .is-finite-joint .ensures,
-    )
+    rw (c .is-finite-point3 .ensures, c .before .is-finite-point2 .ensures, c .before .before .is-finite-pose .ensures)
+    (rw (c .before .before .before .is-finite-point .ensures, at-is-finite-joint .is-finite-joint .ensures))
 
 pub is-finite-link-spec : {M : Type 1} → statement M
 is-finite-link-spec =

@@ -26,14 +26,8 @@ returns : tie.Need-returns
 unfolding freeAnswer
 returns c =
     let at-is-axis : tie.After-is-axis = search in
-    rw (
-      c .answer-count .ensures,
-      c .before .one-if .ensures .0,
-      c .before .before .free .ensures,
-      c .before .before .before .unless .ensures,
-      at-is-axis .is-axis .ensures,
-      at-is-axis .before .is-mask .ensures,
-    )
+    rw (c .answer-count .ensures, c .before .one-if .ensures .0, c .before .before .free .ensures)
+    (rw (c .before .before .before .unless .ensures, at-is-axis .is-axis .ensures, at-is-axis .before .is-mask .ensures))
 
 pub free-axis-spec : {M : Type 1} → statement M
 free-axis-spec =

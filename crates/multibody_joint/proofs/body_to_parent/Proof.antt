@@ -26,14 +26,8 @@ returns : tie.Need-returns
 unfolding bodyToParent slidPose
 returns c =
     let at-inverse : tie.After-inverse = search in
-    rw (
-      c .product2 .ensures,
-      c .before .slid2 .ensures,
-      c .before .before .slid .ensures,
-      c .before .before .before .product .ensures,
-      at-inverse .inverse .ensures,
-      at-inverse .before .pose-of .ensures,
-    )
+    rw (c .product2 .ensures, c .before .slid2 .ensures, c .before .before .slid .ensures)
+    (rw (c .before .before .before .product .ensures, at-inverse .inverse .ensures, at-inverse .before .pose-of .ensures))
 
 pub body-to-parent-spec : {M : Type 1} → statement M
 body-to-parent-spec =

@@ -22,14 +22,8 @@ with-motion-requires c κs = search needs
 returns : tie.Need-returns
 unfolding freeJoint
 returns c =
-    let at-identity : tie.After-identity = search in
-    rw (
-      c .with-motion .ensures,
-      c .before .rotation-of .ensures,
-      c .before .before .new-joint .ensures,
-      c .before .before .before .identity2 .ensures,
-      at-identity .identity .ensures,
-    )
+    rw (c .with-motion .ensures, c .before .rotation-of .ensures, c .before .before .new-joint .ensures)
+    (rw (c .before .before .before .identity2 .ensures, c .before .before .before .before .identity .ensures))
 
 pub free-spec : {M : Type 1} → statement M
 free-spec =

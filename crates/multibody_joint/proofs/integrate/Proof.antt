@@ -23,13 +23,8 @@ returns : tie.Need-returns
 unfolding integrated
 returns c =
     let at-integrated-at : tie.After-integrated-at = search in
-    rw (
-      c .with-motion .ensures,
-      c .before .renewed-rotation .ensures,
-      c .before .before .integrated-at3 .ensures,
-      c .before .before .before .integrated-at2 .ensures,
-      at-integrated-at .integrated-at .ensures,
-    )
+    rw (c .with-motion .ensures, c .before .renewed-rotation .ensures, c .before .before .integrated-at3 .ensures)
+    (rw (c .before .before .before .integrated-at2 .ensures, at-integrated-at .integrated-at .ensures))
 
 pub integrate-spec : {M : Type 1} → statement M
 integrate-spec =

@@ -26,14 +26,8 @@ returns : tie.Need-returns
 unfolding poseProduct
 returns c =
     let at-rotation-of2 : tie.After-rotation-of2 = search in
-    rw (
-      c .pose-of .ensures,
-      c .before .placed .ensures,
-      c .before .before .translation-of .ensures,
-      c .before .before .before .rotation-product .ensures,
-      at-rotation-of2 .rotation-of2 .ensures,
-      at-rotation-of2 .before .rotation-of .ensures,
-    )
+    rw (c .pose-of .ensures, c .before .placed .ensures, c .before .before .translation-of .ensures)
+    (rw (c .before .before .before .rotation-product .ensures, at-rotation-of2 .rotation-of2 .ensures, at-rotation-of2 .before .rotation-of .ensures))
 
 pub product-spec : {M : Type 1} → statement M
 product-spec =
