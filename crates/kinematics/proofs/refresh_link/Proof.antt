@@ -26,9 +26,8 @@ returns c =
     let posed : tie.After-pose-link = search in
     let worked : tie.After-work-block = search in
     let placed : tie.After-with-place = search in
-    let own = rw (posed .pose-link .ensures) at (worked .work-block .ensures) in
     record {
-      own = own;
+      own = rw (posed .pose-link .ensures) at (worked .work-block .ensures);
       place = rw (placed .with-place .ensures, posed .pose-link .ensures);
       test = rw (c .all-finite .ensures, c .before .before .is-finite-place .ensures, posed .pose-link .ensures);
     }
