@@ -1,4 +1,4 @@
--- The count of quarter turns. The thresholds rise, so that those at most a are the first ones: what one test says of the whole count. Assumes nothing.
+-- The count of quarter turns. Of thresholds that rise, however many, those at most a are the first ones: what one test says of the whole count. Assumes nothing.
 use mathlib.Core.Path.{_≡_, refl, sym, _∙_, subst}
 use mathlib.Core.Logic.{inl, inr}
 use mathlib.Core.Bool.{Bool, true, false, cond, _&&_, true≢false}
@@ -25,7 +25,72 @@ pub turns-le : (a : Float) → quarterTurns a ≤ 163
 unfolding quarterTurns
 turns-le a = count-le 163 a
 
--- ---- a test that passes at each number below n
+-- ---- of n thresholds that rise those at most a are the first ones
+
+abbrev Rising : ℕ → Type 0
+Rising n = (j : ℕ) → 0 < j → j < n → T (le (threshold j) (threshold (suc j)))
+
+is-true : (b : Bool) → T b → b ≡ true
+is-true true t = refl
+is-true false t = absurd t
+
+holds : (b : Bool) → b ≡ true → T b
+holds b e = subst T (sym e) tt
+
+module _ (n : ℕ) (rising : Rising n) (a : Float) where
+  abbrev AtMost : ℕ → Type 0
+  AtMost j = T (le (threshold j) a)
+
+  downs : (m k : ℕ) → 0 < m → m ≤ k → k ≤ n → AtMost k → AtMost m
+  downs m zero p l u h = absurd (omega arith)
+  downs m (suc k) p l u h = elim (eq-or-lt-of-le l) [
+    | inl e ↦ subst AtMost (sym e) h
+    | inr s ↦ let r = rising k (omega arith) (omega arith) in downs m k p (omega arith) (omega arith) (le-trans (threshold k) (threshold (suc k)) a r h)
+  ]
+
+  one : (j : ℕ) → le (threshold j) a ≡ true → _≡_ {A = ℕ} (cond (le (threshold j) a) 1 0) 1
+  one j h = rw h
+
+  none : (j : ℕ) → le (threshold j) a ≡ false → _≡_ {A = ℕ} (cond (le (threshold j) a) 1 0) 0
+  none j h = rw h
+
+  full : (m k : ℕ) → k ≤ m → m ≤ n → (0 < m → AtMost m) → k ≤ countTo k a
+  unfolding countTo
+  full m zero l u h = zero-le
+  full m (suc k) l u h =
+      let t = downs (suc k) m (omega arith) l u (h (omega arith)) in
+      let e = one (suc k) (is-true (le (threshold (suc k)) a) t) in
+      let r = full m k (omega arith) u h in
+      omega arith
+
+  grows : (m k : ℕ) → m ≤ k → countTo m a ≤ countTo k a
+  unfolding countTo
+  grows m zero l = let e : m ≡ 0 = omega arith in rw e (le-refl (countTo 0 a))
+  grows m (suc k) l = elim (eq-or-lt-of-le l) [
+    | inl e ↦ rw e (le-refl (countTo (suc k) a))
+    | inr s ↦ let r = grows m k (omega arith) in omega arith
+  ]
+
+  under : (m k : ℕ) → k ≤ n → 0 < m → (AtMost m → ⊥) → countTo k a < m
+  unfolding countTo
+  under m zero u p f = p
+  under m (suc k) u p f = go (le (threshold (suc k)) a) refl (under m k (omega arith) p f)
+    where
+      go : (b : Bool) → le (threshold (suc k)) a ≡ b → countTo k a < m → countTo (suc k) a < m
+      go false e r = let z = none (suc k) e in omega arith
+      go true e r = elim (decLe m (suc k)) [
+        | yes l ↦ absurd (f (downs m (suc k) p l u (holds (le (threshold (suc k)) a) e)))
+        | no s ↦ let q = count-le (suc k) a in omega (arith, s)
+      ]
+
+  -- what one test says of the count
+  counted : (m : ℕ) → m ≤ n → le (threshold m) a ≡ true → m ≤ countTo n a
+  counted m l e = omega (arith, full m m (le-refl m) l (λ p. holds (le (threshold m) a) e), grows m n l)
+
+  not-counted : (m : ℕ) → 0 < m → le (threshold m) a ≡ false → countTo n a < m
+  not-counted m p e = under m n (le-refl n) p (λ h. true≢false (sym (is-true (le (threshold m) a) h) ∙ e))
+
+-- ---- 163 of them rise: each is at most the next, computed
 
 abbrev every : (ℕ → Bool) → ℕ → Bool
 every f zero = true
@@ -40,15 +105,6 @@ at f (suc n) k t h =
       | inr l ↦ at f n k (and-l (every f n) (f n) t) l
     ]
 
-is-true : (b : Bool) → T b → b ≡ true
-is-true true t = refl
-is-true false t = absurd t
-
-holds : (b : Bool) → b ≡ true → T b
-holds b e = subst T (sym e) tt
-
--- ---- each threshold is at most the next: computed
-
 rises : ℕ → Bool
 rises j = le (threshold (suc j)) (threshold (suc (suc j)))
 
@@ -56,64 +112,15 @@ all-rise : T (every rises 162)
 unfolding rises threshold mul ofInt ofBits le
 all-rise = tt
 
--- ---- so those at most a are the first ones
+rising : Rising 163
+unfolding rises
+rising zero p l = absurd (omega arith)
+rising (suc j) p l = at rises 162 j all-rise (omega arith)
 
-module _ (a : Float) where
-  abbrev AtMost : ℕ → Type 0
-  AtMost j = T (le (threshold j) a)
+pub at-least : (a : Float) (m : ℕ) → m ≤ 163 → le (threshold m) a ≡ true → m ≤ quarterTurns a
+unfolding quarterTurns
+at-least a = counted 163 rising a
 
-  down : (m : ℕ) → 0 < m → m < 163 → AtMost (suc m) → AtMost m
-  unfolding rises
-  down zero p l h = absurd (omega arith)
-  down (suc j) p l h = le-trans (threshold (suc j)) (threshold (suc (suc j))) a (at rises 162 j all-rise (omega arith)) h
-
-  downs : (m n : ℕ) → 0 < m → m ≤ n → n ≤ 163 → AtMost n → AtMost m
-  downs m zero p l u h = absurd (omega arith)
-  downs m (suc n) p l u h = elim (eq-or-lt-of-le l) [
-    | inl e ↦ subst AtMost (sym e) h
-    | inr s ↦ downs m n p (omega arith) (omega arith) (down n (omega arith) (omega arith) h)
-  ]
-
-  one : (j : ℕ) → le (threshold j) a ≡ true → _≡_ {A = ℕ} (cond (le (threshold j) a) 1 0) 1
-  one j h = rw h
-
-  none : (j : ℕ) → le (threshold j) a ≡ false → _≡_ {A = ℕ} (cond (le (threshold j) a) 1 0) 0
-  none j h = rw h
-
-  full : (m : ℕ) → m ≤ 163 → (0 < m → AtMost m) → m ≤ countTo m a
-  unfolding countTo
-  full zero l h = zero-le
-  full (suc m) l h =
-      let t : AtMost (suc m) = h (omega arith) in
-      let e = one (suc m) (is-true (le (threshold (suc m)) a) t) in
-      let r = full m (omega arith) (λ p. down m p (omega arith) t) in
-      omega arith
-
-  grows : (m n : ℕ) → m ≤ n → countTo m a ≤ countTo n a
-  unfolding countTo
-  grows m zero l = let e : m ≡ 0 = omega arith in rw e (le-refl (countTo 0 a))
-  grows m (suc n) l = elim (eq-or-lt-of-le l) [
-    | inl e ↦ rw e (le-refl (countTo (suc n) a))
-    | inr s ↦ let r = grows m n (omega arith) in omega arith
-  ]
-
-  under : (m n : ℕ) → n ≤ 163 → 0 < m → (AtMost m → ⊥) → countTo n a < m
-  unfolding countTo
-  under m zero u p f = p
-  under m (suc n) u p f = go (le (threshold (suc n)) a) refl (under m n (omega arith) p f)
-    where
-      go : (b : Bool) → le (threshold (suc n)) a ≡ b → countTo n a < m → countTo (suc n) a < m
-      go false e r = let z = none (suc n) e in omega arith
-      go true e r = elim (decLe m (suc n)) [
-        | yes l ↦ absurd (f (downs m (suc n) p l u (holds (le (threshold (suc n)) a) e)))
-        | no s ↦ let q = count-le (suc n) a in omega (arith, s)
-      ]
-
-  -- a threshold that is at most a, and one that isn't
-  pub at-least : (m : ℕ) → m ≤ 163 → le (threshold m) a ≡ true → m ≤ quarterTurns a
-  unfolding quarterTurns
-  at-least m l e = omega (arith, full m l (λ p. holds (le (threshold m) a) e), grows m 163 l)
-
-  pub at-most : (m : ℕ) → 0 < m → le (threshold m) a ≡ false → quarterTurns a < m
-  unfolding quarterTurns
-  at-most m p e = under m 163 (omega arith) p (λ h. true≢false (sym (is-true (le (threshold m) a) h) ∙ e))
+pub at-most : (a : Float) (m : ℕ) → 0 < m → le (threshold m) a ≡ false → quarterTurns a < m
+unfolding quarterTurns
+at-most a = not-counted 163 rising a

@@ -32,37 +32,30 @@ pub struct Pose {
 // ---- The rotation of an angle
 
 // Is the j-th threshold, an odd eighth of a turn, at most a?
-fn is_passed(j: u16, a: f32) -> bool
+fn is_passed(j: u32, a: f32) -> bool
     requires { ⌜ (0 < j) × (j ≤ 163) ⌝ }
     ensures { λ r. ⌜ r ≡ le (threshold j) a ⌝ }
 {
     ((2 * j - 1) as f32) * 0.7853982 <= a
 }
 
-// As many of the 163 thresholds as are passed by sixteens.
-fn sixteens(a: f32) -> u16
-    ensures { λ r. ⌜ r ≤ quarterTurns a ⌝ }
-{
-    let mut k: u16 = 0;
-    while k <= 147 {
-        if !is_passed(k + 16, a) {
-            return k;
-        }
-        k += 16;
-    }
-    k
-}
-
-// How many of the 163 thresholds are at most a. They rise: the first one above it ends the count.
+// How many of the 163 thresholds are at most a. They rise, so that a test at the middle halves the interval that the count lies in, from k on and below
+// k + size: at most 8 tests. While k is 0 a middle is a constant, and its threshold too: for small angles the tests cost least.
 fn quarter_turns(a: f32) -> usize
     ensures { λ r. ⌜ r ≡ quarterTurns a ⌝ }
 {
-    let mut k = sixteens(a);
-    while k < 163 {
-        if !is_passed(k + 1, a) {
-            return k as usize;
+    let mut k: u32 = 0;
+    let mut size: u32 = 256;
+    while size > 1 {
+        let half = size / 2;
+        if k == 0 {
+            if is_passed(half, a) {
+                k = half;
+            }
+        } else if k + half <= 163 && is_passed(k + half, a) {
+            k += half;
         }
-        k += 1;
+        size -= half;
     }
     k as usize
 }

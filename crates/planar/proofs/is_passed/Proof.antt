@@ -1,5 +1,9 @@
 -- `is_passed`: the threshold as its definition has it. Assumes nothing.
 use mathlib.Core.Path.{refl}
+use Prim.Native.Nat.{_-_, _*_}
+use native.Mathlib.Omega.{arith}
+use lib.Dec.{le→leb}
+use lib.Ieee.{inFloat}
 use Rattle.planar.specs.Rotation.{threshold}
 use borrow.Author.Needs.{needs}
 use Rattle.planar.proofs.is_passed.Statement.{statement}
@@ -12,7 +16,8 @@ sub-result : tie.Need-sub-result
 sub-result c = search needs
 
 int-to-float-result : tie.Need-int-to-float-result
-int-to-float-result c = search needs
+unfolding inFloat
+int-to-float-result c = le→leb (2 * c .before .args .j - 1) 16777216 (omega arith)
 
 returns : tie.Need-returns
 unfolding threshold

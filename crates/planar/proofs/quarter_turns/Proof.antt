@@ -1,71 +1,69 @@
--- `quarter_turns`: what is passed is counted, and the first threshold that isn't ends the count. Assumes nothing.
-use Prim.Native.Nat.{_+_, _-_, _≤_}
+-- `quarter_turns`: the count lies from k on and below k + size; a test at the middle says in which half. Assumes nothing.
+use Prim.Native.Nat.{_+_, _/_, _≤_, _<_}
 use native.Mathlib.Omega.{arith}
 use mathlib.Core.Path.{sym, _∙_}
-use borrow.Author.Tests.{not-false, not-true}
+use mathlib.Core.Logic.{⊎-elim}
 use Rattle.planar.specs.Rotation.{quarterTurns}
 use Rattle.planar.proofs.Turns.{at-least, at-most, turns-le}
-use borrow.Author.Needs.{needs}
 use Rattle.planar.proofs.quarter_turns.Statement.{statement}
 use Rattle.planar.proofs.quarter_turns.Tie as tie
 
 abbrev Inv-loop : tie.InvT-loop
-Inv-loop a k₀ k = (k ≤ 163) × (k ≤ quarterTurns a)
+Inv-loop a k₀ size₀ k size = (size ≤ 256) × (k ≤ quarterTurns a) × (quarterTurns a < k + size)
 
 abbrev μ-loop : tie.MeasureT-loop
-μ-loop a k₀ k = 163 - k
-
-sixteens-requires : tie.Need-sixteens-requires Inv-loop μ-loop
-sixteens-requires c κs = search needs
+μ-loop a k₀ size₀ k size = size
 
 loop-holds : tie.Need-loop-holds Inv-loop μ-loop
-loop-holds c = omega (arith, c .sixteens .ensures, turns-le (c .before .args .a))
-
-add-is-passed : tie.Need-add-is-passed Inv-loop μ-loop
-add-is-passed c = search needs
+loop-holds c = omega (arith, turns-le (c .args .a))
 
 is-passed-requires : tie.Need-is-passed-requires Inv-loop μ-loop
 is-passed-requires c κs = omega arith
 
-cast-result : tie.Need-cast-result Inv-loop μ-loop
-cast-result c = search needs
+add-if3 : tie.Need-add-if3 Inv-loop μ-loop
+add-if3 c = omega (arith, turns-le (c .before .before .before .args .a))
 
-returns : tie.Need-returns Inv-loop μ-loop
-returns c =
-    let h = at-most (c .before .before .before .before .before .args .a) (c .before .before .before .loop .k + 1) (omega arith) (sym (c .before .is-passed .ensures) ∙ not-true (c .before .is-passed .result) (c .if1 .taken)) in
-    omega arith
+add-is-passed : tie.Need-add-is-passed Inv-loop μ-loop
+add-is-passed c = omega arith
+
+is-passed-requires-2 : tie.Need-is-passed-requires-2 Inv-loop μ-loop
+is-passed-requires-2 c κs = omega arith
 
 add-k : tie.Need-add-k Inv-loop μ-loop
-add-k c = search needs
+add-k c = omega arith
+
+sub-size : tie.Need-sub-size Inv-loop μ-loop
+sub-size c = omega arith
 
 loop-less : tie.Need-loop-less Inv-loop μ-loop
-loop-less c = search needs
+loop-less c = omega arith
 
 loop-again : tie.Need-loop-again Inv-loop μ-loop
 loop-again c =
-    let h = at-least (c .before .before .before .before .before .args .a) (c .before .before .before .loop .k + 1) (omega arith) (sym (c .before .is-passed .ensures) ∙ not-false (c .before .is-passed .result) (c .if1 .left)) in
-    omega arith
+    let start : tie.Start Inv-loop μ-loop = search in
+    let turn : tie.At-loop Inv-loop μ-loop = search in
+    let a = start .args .a in
+    let half = turn .loop .size / 2 in
+    let middle = turn .loop .k + half in
+    ⊎-elim
+    (λ w. let h = at-least a half (omega arith) (sym (w .1 .ensures) ∙ w .2 .taken) in omega arith)
+    (⊎-elim
+    (λ w. let h = at-most a half (omega arith) (sym (w .1 .ensures) ∙ w .2 .left) in omega arith)
+    (⊎-elim
+    (λ w. let h = at-least a middle (omega arith) (sym (w .2 .ensures) ∙ w .3 .taken) in omega arith)
+    (λ w. ⊎-elim
+    (λ v. let h = at-most a middle (omega arith) (sym (v .1 .ensures) ∙ v .2 .left) in omega arith)
+    (λ v. omega (arith, turns-le a))
+    (w .1 .came))))
+    (c .if1 .came)
 
-cast-result-2 : tie.Need-cast-result-2 Inv-loop μ-loop
-cast-result-2 c = search needs
+cast-result : tie.Need-cast-result Inv-loop μ-loop
+cast-result c = omega (arith, turns-le (c .before .before .args .a))
 
-returns-2 : tie.Need-returns-2 Inv-loop μ-loop
-returns-2 c = omega (arith, turns-le (c .before .before .before .args .a))
+returns : tie.Need-returns Inv-loop μ-loop
+returns c = omega arith
 
 pub quarter-turns-spec : {M : Type 1} → statement M
 quarter-turns-spec =
     tie.close
-    (tie.spec
-    Inv-loop
-    μ-loop
-    sixteens-requires
-    loop-holds
-    add-is-passed
-    is-passed-requires
-    cast-result
-    returns
-    add-k
-    loop-less
-    loop-again
-    cast-result-2
-    returns-2)
+    (tie.spec Inv-loop μ-loop loop-holds is-passed-requires add-if3 add-is-passed is-passed-requires-2 add-k sub-size loop-less loop-again cast-result returns)
