@@ -1,4 +1,5 @@
--- The count of quarter turns. Of thresholds that rise, however many, those at most a are the first ones: what one test says of the whole count. Assumes nothing.
+-- The count of quarter turns. However many thresholds there are, if they rise, those at most a are the first ones: what one test says of the whole count.
+-- Assumes nothing.
 use mathlib.Core.Path.{_≡_, refl, sym, _∙_, subst}
 use mathlib.Core.Logic.{inl, inr}
 use mathlib.Core.Bool.{Bool, true, false, cond, _&&_, true≢false}
@@ -54,11 +55,11 @@ module _ (n : ℕ) (rising : Rising n) (a : Float) where
   none : (j : ℕ) → le (threshold j) a ≡ false → _≡_ {A = ℕ} (cond (le (threshold j) a) 1 0) 0
   none j h = rw h
 
-  full : (m k : ℕ) → k ≤ m → m ≤ n → (0 < m → AtMost m) → k ≤ countTo k a
+  full : (m k : ℕ) → k ≤ m → m ≤ n → AtMost m → k ≤ countTo k a
   unfolding countTo
   full m zero l u h = zero-le
   full m (suc k) l u h =
-      let t = downs (suc k) m (omega arith) l u (h (omega arith)) in
+      let t = downs (suc k) m (omega arith) l u h in
       let e = one (suc k) (is-true (le (threshold (suc k)) a) t) in
       let r = full m k (omega arith) u h in
       omega arith
@@ -85,7 +86,7 @@ module _ (n : ℕ) (rising : Rising n) (a : Float) where
 
   -- what one test says of the count
   counted : (m : ℕ) → m ≤ n → le (threshold m) a ≡ true → m ≤ countTo n a
-  counted m l e = omega (arith, full m m (le-refl m) l (λ p. holds (le (threshold m) a) e), grows m n l)
+  counted m l e = omega (arith, full m m (le-refl m) l (holds (le (threshold m) a) e), grows m n l)
 
   not-counted : (m : ℕ) → 0 < m → le (threshold m) a ≡ false → countTo n a < m
   not-counted m p e = under m n (le-refl n) p (λ h. true≢false (sym (is-true (le (threshold m) a) h) ∙ e))
