@@ -2,29 +2,67 @@
 
 use crate::arms::{FRAME1, FRAME2, plain_pose, same};
 use crate::table::{Table, Times};
+use crate::times::least;
 use giellavor::ffi::{self, timed};
 use giellavor::{LINKS, Pose};
 use plain::Rotation;
 use plain::split::{Split, split_map};
 use std::hint::black_box;
 
+/// A small angle, and one near the largest.
+const NEAR: f32 = 0.5;
+const FAR: f32 = 255.9;
+/// Angles by chance.
+const ANGLES: u32 = 4096;
+
 pub fn time(table: &mut Table) {
-    table.line("rotation", rotation(2.5));
+    rotations(table);
     table.line("pose product", product(FRAME1, FRAME2));
     table.line("split map, 16 links", split(1));
 }
 
-fn rotation(angle: f32) -> Times {
-    let ours = ffi::rotate(angle).rotation;
-    assert!(Rotation::at(angle).is_ok_and(|rotation| same(&rotation.floats(), &[ours.re, ours.im])));
-    Times::of(
-        &mut || {
-            black_box(ffi::rotate(black_box(angle)));
-        },
-        &mut || {
-            let _ = black_box(Rotation::at(black_box(angle)));
-        },
-    )
+fn rotations(table: &mut Table) {
+    let any = angles();
+    for &angle in any.iter().chain([&NEAR, &FAR]) {
+        let ours = ffi::rotate(angle).rotation;
+        assert!(Rotation::at(angle).is_ok_and(|rotation| same(&rotation.floats(), &[ours.re, ours.im])));
+    }
+    // Both angles by turns: a machine's clock may change between two lines.
+    let [near, near_rust, far, far_rust] =
+        least([&mut || ours(NEAR), &mut || rust(NEAR), &mut || ours(FAR), &mut || {
+            rust(FAR)
+        }]);
+    table.line(&format!("rotation at {NEAR}"), Times::both(near, near_rust));
+    table.line(&format!("rotation at {FAR}"), Times::both(far, far_rust));
+    let all = least([&mut || any.iter().copied().for_each(ours), &mut || {
+        any.iter().copied().for_each(rust)
+    }]);
+    let [each, each_rust] = all.map(|ns| ns / f64::from(ANGLES));
+    table.line("rotation, angles by chance", Times::both(each, each_rust));
+    table.remark(format!(
+        "rotation: at {FAR} it takes {:.2} times as long as at {NEAR} (plain Rust: {:.2})",
+        far / near,
+        far_rust / near_rust
+    ));
+}
+
+/// From -256 to 256, in an order in which no branch on one is foreseen.
+fn angles() -> Vec<f32> {
+    let mut state = 1_u32;
+    (0..ANGLES)
+        .map(|_| {
+            state = state.wrapping_mul(1_664_525).wrapping_add(1_013_904_223);
+            state as i32 as f32 / (1 << 23) as f32
+        })
+        .collect()
+}
+
+fn ours(angle: f32) {
+    black_box(ffi::rotate(black_box(angle)));
+}
+
+fn rust(angle: f32) {
+    let _ = black_box(Rotation::at(black_box(angle)));
 }
 
 fn product(a: Pose, b: Pose) -> Times {

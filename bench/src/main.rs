@@ -1,5 +1,6 @@
 //! The proved functions beside plain Rust, in one process and on the same inputs: ns and their ratio, and that the results are the same, bit for bit.
 
+mod angles;
 mod arms;
 mod asked;
 mod boundary;
@@ -14,11 +15,14 @@ mod times;
 
 fn main() {
     let words: Vec<String> = std::env::args().skip(1).collect();
-    if let [mode, words @ ..] = &words[..]
-        && mode == "count"
-    {
-        return count::run(words);
+    match words.split_first() {
+        Some((mode, words)) if mode == "count" => count::run(words),
+        Some((mode, [])) if mode == "angles" => angles::compare(),
+        _ => time_all(),
     }
+}
+
+fn time_all() {
     let mut table = table::Table::new();
     leaves::time(&mut table);
     calls::time(&mut table);

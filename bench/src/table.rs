@@ -17,6 +17,11 @@ impl Times {
     /// Ours and plain Rust, where no arm is passed on.
     pub fn of(ours: &mut dyn FnMut(), rust: &mut dyn FnMut()) -> Times {
         let [ours, rust] = least([ours, rust]);
+        Times::both(ours, rust)
+    }
+
+    /// The times of both, where no arm is passed on.
+    pub fn both(ours: f64, rust: f64) -> Times {
         Times {
             ours,
             rust,
@@ -31,10 +36,15 @@ pub struct Table {
     remarks: Vec<String>,
 }
 
+/// ns, with a tenth where they are few.
+fn ns(time: f64) -> String {
+    format!("{time:.*}", usize::from(time < 100.0))
+}
+
 /// A time and its ratio, or nothing where there is none.
 fn cell(ours: f64, other: Option<f64>) -> String {
     match other {
-        Some(other) => format!("{other:10.0} {:6.2}", ours / other),
+        Some(other) => format!("{:>10} {:6.2}", ns(other), ours / other),
         None => format!("{:>10} {:>6}", "-", "-"),
     }
 }
@@ -66,7 +76,7 @@ impl Table {
         } = times;
         self.worst = self.worst.max(ours / by_value.unwrap_or(rust));
         let cells = [Some(rust), by_value, text].map(|other| cell(ours, other));
-        println!("{name:28} {ours:9.0} {}", cells.join(" "));
+        println!("{name:28} {:>9} {}", ns(ours), cells.join(" "));
         times
     }
 
