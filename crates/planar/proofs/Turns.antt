@@ -1,13 +1,13 @@
--- The count of quarter turns. However many thresholds there are, if they rise, those at most a are the first ones: what one test says of the whole count.
--- Assumes nothing.
+-- The count of quarter turns. However many thresholds there are, if they rise, those at most a are the first ones: one test says whether the count comes to its
+-- number. Assumes nothing.
 use mathlib.Core.Path.{_≡_, refl, sym, _∙_, subst}
 use mathlib.Core.Logic.{inl, inr}
-use mathlib.Core.Bool.{Bool, true, false, cond, _&&_, true≢false}
+use mathlib.Core.Bool.{Bool, true, false, cond, _&&_}
 use Prim.Native.Nat.{ℕ, zero, suc, _≤_, _<_, zero-le}
 use native.Mathlib.Nat.{le-refl, eq-or-lt-of-le}
 use native.Mathlib.Omega.{arith}
-use native.Mathlib.Decide.{decLe}
-use lib.Dec.{T}
+use borrow.Author.Tests.{leb-true, le-leb, lt-leb}
+use lib.Dec.{T, leb}
 use lib.Ieee.{Float, le, mul, ofInt, ofBits}
 use lib.Ieee.Fits.{and-l, and-r}
 use Rattle.planar.specs.Rotation.{threshold, countTo, quarterTurns}
@@ -26,10 +26,13 @@ pub turns-le : (a : Float) → quarterTurns a ≤ 163
 unfolding quarterTurns
 turns-le a = count-le 163 a
 
--- ---- of n thresholds that rise those at most a are the first ones
+-- ---- of n thresholds that rise the j-th is at most a exactly if the count comes to j
 
 abbrev Rising : ℕ → Type 0
 Rising n = (j : ℕ) → 0 < j → j < n → T (le (threshold j) (threshold (suc j)))
+
+abbrev Told : ℕ → Float → Type 0
+Told n a = (j : ℕ) → 0 < j → j ≤ n → le (threshold j) a ≡ leb j (countTo n a)
 
 is-true : (b : Bool) → T b → b ≡ true
 is-true true t = refl
@@ -38,58 +41,42 @@ is-true false t = absurd t
 holds : (b : Bool) → b ≡ true → T b
 holds b e = subst T (sym e) tt
 
-module _ (n : ℕ) (rising : Rising n) (a : Float) where
-  abbrev AtMost : ℕ → Type 0
-  AtMost j = T (le (threshold j) a)
+-- the last one is at most a: so are all before it
+all-counted : (n : ℕ) (a : Float) → Rising (suc n) → Told n a → le (threshold (suc n)) a ≡ true → n ≤ countTo n a
+all-counted zero a r h e = zero-le
+all-counted (suc n) a r h e =
+    let rise = r (suc n) (omega arith) (omega arith) in
+    let t = le-trans (threshold (suc n)) (threshold (suc (suc n))) a rise (holds (le (threshold (suc (suc n))) a) e) in
+    leb-true (suc n) (countTo (suc n) a) (sym (h (suc n) (omega arith) (le-refl (suc n))) ∙ is-true (le (threshold (suc n)) a) t)
 
-  downs : (m k : ℕ) → 0 < m → m ≤ k → k ≤ n → AtMost k → AtMost m
-  downs m zero p l u h = absurd (omega arith)
-  downs m (suc k) p l u h = elim (eq-or-lt-of-le l) [
-    | inl e ↦ subst AtMost (sym e) h
-    | inr s ↦ let r = rising k (omega arith) (omega arith) in downs m k p (omega arith) (omega arith) (le-trans (threshold k) (threshold (suc k)) a r h)
-  ]
+one-more : (n : ℕ) (a : Float) → le (threshold (suc n)) a ≡ true → countTo (suc n) a ≡ suc (countTo n a)
+unfolding countTo
+one-more n a e = rw e (omega arith)
 
-  one : (j : ℕ) → le (threshold j) a ≡ true → _≡_ {A = ℕ} (cond (le (threshold j) a) 1 0) 1
-  one j h = rw h
+no-more : (n : ℕ) (a : Float) → le (threshold (suc n)) a ≡ false → countTo (suc n) a ≡ countTo n a
+unfolding countTo
+no-more n a e = rw e (omega arith)
 
-  none : (j : ℕ) → le (threshold j) a ≡ false → _≡_ {A = ℕ} (cond (le (threshold j) a) 1 0) 0
-  none j h = rw h
+next-told : (n : ℕ) (a : Float) → Rising (suc n) → Told n a → Told (suc n) a
+next-told n a r h j p l = go (le (threshold (suc n)) a) refl
+  where
+    go : (b : Bool) → le (threshold (suc n)) a ≡ b → le (threshold j) a ≡ leb j (countTo (suc n) a)
+    go true e =
+        let f = all-counted n a r h e in
+        let m = one-more n a e in
+        let at-most : le (threshold j) a ≡ true = elim (eq-or-lt-of-le l) [
+          | inl q ↦ rw q e
+          | inr s ↦ h j p (omega arith) ∙ le-leb j (countTo n a) (omega arith)
+        ] in
+        at-most ∙ sym (le-leb j (countTo (suc n) a) (omega arith))
+    go false e = elim (eq-or-lt-of-le l) [
+      | inl q ↦ rw q (e ∙ sym (lt-leb (suc n) (countTo (suc n) a) (omega (arith, no-more n a e, count-le n a))))
+      | inr s ↦ rw (no-more n a e) (h j p (omega arith))
+    ]
 
-  full : (m k : ℕ) → k ≤ m → m ≤ n → AtMost m → k ≤ countTo k a
-  unfolding countTo
-  full m zero l u h = zero-le
-  full m (suc k) l u h =
-      let t = downs (suc k) m (omega arith) l u h in
-      let e = one (suc k) (is-true (le (threshold (suc k)) a) t) in
-      let r = full m k (omega arith) u h in
-      omega arith
-
-  grows : (m k : ℕ) → m ≤ k → countTo m a ≤ countTo k a
-  unfolding countTo
-  grows m zero l = let e : m ≡ 0 = omega arith in rw e (le-refl (countTo 0 a))
-  grows m (suc k) l = elim (eq-or-lt-of-le l) [
-    | inl e ↦ rw e (le-refl (countTo (suc k) a))
-    | inr s ↦ let r = grows m k (omega arith) in omega arith
-  ]
-
-  under : (m k : ℕ) → k ≤ n → 0 < m → (AtMost m → ⊥) → countTo k a < m
-  unfolding countTo
-  under m zero u p f = p
-  under m (suc k) u p f = go (le (threshold (suc k)) a) refl (under m k (omega arith) p f)
-    where
-      go : (b : Bool) → le (threshold (suc k)) a ≡ b → countTo k a < m → countTo (suc k) a < m
-      go false e r = let z = none (suc k) e in omega arith
-      go true e r = elim (decLe m (suc k)) [
-        | yes l ↦ absurd (f (downs m (suc k) p l u (holds (le (threshold (suc k)) a) e)))
-        | no s ↦ let q = count-le (suc k) a in omega (arith, s)
-      ]
-
-  -- what one test says of the count
-  counted : (m : ℕ) → m ≤ n → le (threshold m) a ≡ true → m ≤ countTo n a
-  counted m l e = omega (arith, full m m (le-refl m) l (holds (le (threshold m) a) e), grows m n l)
-
-  not-counted : (m : ℕ) → 0 < m → le (threshold m) a ≡ false → countTo n a < m
-  not-counted m p e = under m n (le-refl n) p (λ h. true≢false (sym (is-true (le (threshold m) a) h) ∙ e))
+told : (n : ℕ) → Rising n → (a : Float) → Told n a
+told zero r a = λ j p l. absurd (omega arith)
+told (suc n) r a = next-told n a r (told n (λ j p l. r j p (omega arith)) a)
 
 -- ---- 163 of them rise: each is at most the next, computed
 
@@ -118,10 +105,6 @@ unfolding rises
 rising zero p l = absurd (omega arith)
 rising (suc j) p l = at rises 162 j all-rise (omega arith)
 
-pub at-least : (a : Float) (m : ℕ) → m ≤ 163 → le (threshold m) a ≡ true → m ≤ quarterTurns a
+pub passed : (a : Float) (j : ℕ) → 0 < j → j ≤ 163 → le (threshold j) a ≡ leb j (quarterTurns a)
 unfolding quarterTurns
-at-least a = counted 163 rising a
-
-pub at-most : (a : Float) (m : ℕ) → 0 < m → le (threshold m) a ≡ false → quarterTurns a < m
-unfolding quarterTurns
-at-most a = not-counted 163 rising a
+passed a = told 163 rising a

@@ -1,8 +1,8 @@
 // The plane in f32: the rotation of an angle, and poses.
 ghost use mathlib.Core.Path.{_≡_};
 ghost use Prim.Native.Nat.{_≤_, _<_};
-ghost use lib.Ieee.{le};
-ghost use Rattle.planar.specs.Rotation.{threshold, quarterTurns, magnitudeOf, reducedBy, sineOf, cosineOf, quarterPair, signedBy, rotationAt, isBeyond, rotationRefusal, rotated};
+ghost use lib.Dec.{leb};
+ghost use Rattle.planar.specs.Rotation.{quarterTurns, magnitudeOf, reducedBy, sineOf, cosineOf, quarterPair, signedBy, rotationAt, isBeyond, rotationRefusal, rotated};
 ghost use Rattle.planar.specs.Poses.{rotationOf, translationOf, posed, identityPose, rotationProduct, turnedBy, placedBy, pointDifference, poseProduct, poseInverse, isTurn, finiteRotation, finitePoint, finitePose};
 use floats::finite;
 use refusal::lower;
@@ -31,16 +31,16 @@ pub struct Pose {
 
 // ---- The rotation of an angle
 
-// Is the j-th threshold, an odd eighth of a turn, at most a?
-fn is_passed(j: u32, a: f32) -> bool
+// Does the count of quarter turns come to j? The thresholds rise: it does exactly if the j-th one, an odd eighth of a turn, is at most a.
+fn comes_to(j: u32, a: f32) -> bool
     requires { ⌜ (0 < j) × (j ≤ 163) ⌝ }
-    ensures { λ r. ⌜ r ≡ le (threshold j) a ⌝ }
+    ensures { λ r. ⌜ r ≡ leb j (quarterTurns a) ⌝ }
 {
     ((2 * j - 1) as f32) * 0.7853982 <= a
 }
 
-// How many of the 163 thresholds are at most a. They rise, so that a test at the middle halves the interval that the count lies in, from k on and below
-// k + size: at most 8 tests. While k is 0 a middle is a constant, and its threshold too: for small angles the tests cost least.
+// How many of the 163 thresholds are at most a. The count lies from k on and below k + size, and a test at the middle halves that: at most 8 tests leave one
+// number. While k is 0 a middle is a constant, and its threshold too: for small angles the tests cost least.
 fn quarter_turns(a: f32) -> usize
     ensures { λ r. ⌜ r ≡ quarterTurns a ⌝ }
 {
@@ -49,10 +49,10 @@ fn quarter_turns(a: f32) -> usize
     while size > 1 {
         let half = size / 2;
         if k == 0 {
-            if is_passed(half, a) {
+            if comes_to(half, a) {
                 k = half;
             }
-        } else if k + half <= 163 && is_passed(k + half, a) {
+        } else if k + half <= 163 && comes_to(k + half, a) {
             k += half;
         }
         size -= half;

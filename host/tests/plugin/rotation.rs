@@ -1,5 +1,5 @@
 //! The rotation against the plain reading, bit for bit, and against the true cosine and sine: over a million angles from -256 to 256, the ends, both
-//! zeros and denormals among them.
+//! zeros, denormals and every threshold of a quarter turn among them.
 
 use crate::size::{CALLS, calls};
 use giellavor::Refusal;
@@ -52,6 +52,19 @@ fn ends_zeros_and_denormals() {
     }
     let zero = rotate(-0.0).unwrap();
     assert_eq!((zero.re.to_bits(), zero.im.to_bits()), (1f32.to_bits(), 0));
+}
+
+/// Where the count of quarter turns comes to each number there is, and the two floats before and after it.
+#[test]
+fn each_threshold_and_its_neighbours() {
+    const EIGHTH: f32 = f32::from_bits(0x3F49_0FDB);
+    for eighths in (1_u16..=325).step_by(2) {
+        let bits = (f32::from(eighths) * EIGHTH).to_bits();
+        for near in bits - 2..=bits + 2 {
+            check(f32::from_bits(near));
+            check(-f32::from_bits(near));
+        }
+    }
 }
 
 #[test]

@@ -3,13 +3,14 @@ use Prim.Native.Nat.{_+_, _/_, _≤_, _<_}
 use native.Mathlib.Omega.{arith}
 use mathlib.Core.Path.{sym, _∙_}
 use mathlib.Core.Logic.{⊎-elim}
+use borrow.Author.Tests.{leb-true, leb-false}
 use Rattle.planar.specs.Rotation.{quarterTurns}
-use Rattle.planar.proofs.Turns.{at-least, at-most, turns-le}
+use Rattle.planar.proofs.Turns.{turns-le}
 use Rattle.planar.proofs.quarter_turns.Statement.{statement}
 use Rattle.planar.proofs.quarter_turns.Tie as tie
 
 abbrev Inv-loop : tie.InvT-loop
-Inv-loop a k₀ size₀ k size = (size ≤ 256) × (k ≤ quarterTurns a) × (quarterTurns a < k + size)
+Inv-loop a k₀ size₀ k size = (size ≤ 256) × (k ≤ 163) × (k ≤ quarterTurns a) × (quarterTurns a < k + size)
 
 abbrev μ-loop : tie.MeasureT-loop
 μ-loop a k₀ size₀ k size = size
@@ -17,17 +18,17 @@ abbrev μ-loop : tie.MeasureT-loop
 loop-holds : tie.Need-loop-holds Inv-loop μ-loop
 loop-holds c = omega (arith, turns-le (c .args .a))
 
-is-passed-requires : tie.Need-is-passed-requires Inv-loop μ-loop
-is-passed-requires c κs = omega arith
+comes-to-requires : tie.Need-comes-to-requires Inv-loop μ-loop
+comes-to-requires c κs = omega arith
 
 add-if3 : tie.Need-add-if3 Inv-loop μ-loop
-add-if3 c = omega (arith, turns-le (c .before .before .before .args .a))
+add-if3 c = omega arith
 
-add-is-passed : tie.Need-add-is-passed Inv-loop μ-loop
-add-is-passed c = omega arith
+add-comes-to : tie.Need-add-comes-to Inv-loop μ-loop
+add-comes-to c = omega arith
 
-is-passed-requires-2 : tie.Need-is-passed-requires-2 Inv-loop μ-loop
-is-passed-requires-2 c κs = omega arith
+comes-to-requires-2 : tie.Need-comes-to-requires-2 Inv-loop μ-loop
+comes-to-requires-2 c κs = omega arith
 
 add-k : tie.Need-add-k Inv-loop μ-loop
 add-k c = omega arith
@@ -42,23 +43,24 @@ loop-again : tie.Need-loop-again Inv-loop μ-loop
 loop-again c =
     let start : tie.Start Inv-loop μ-loop = search in
     let turn : tie.At-loop Inv-loop μ-loop = search in
-    let a = start .args .a in
+    let count = quarterTurns (start .args .a) in
+    let most = turns-le (start .args .a) in
     let half = turn .loop .size / 2 in
     let middle = turn .loop .k + half in
     ⊎-elim
-    (λ w. let h = at-least a half (omega arith) (sym (w .1 .ensures) ∙ w .2 .taken) in omega arith)
+    (λ w. let h = leb-true half count (sym (w .1 .ensures) ∙ w .2 .taken) in omega arith)
     (⊎-elim
-    (λ w. let h = at-most a half (omega arith) (sym (w .1 .ensures) ∙ w .2 .left) in omega arith)
+    (λ w. let h = leb-false half count (sym (w .1 .ensures) ∙ w .2 .left) in omega arith)
     (⊎-elim
-    (λ w. let h = at-least a middle (omega arith) (sym (w .2 .ensures) ∙ w .3 .taken) in omega arith)
+    (λ w. let h = leb-true middle count (sym (w .2 .ensures) ∙ w .3 .taken) in omega arith)
     (λ w. ⊎-elim
-    (λ v. let h = at-most a middle (omega arith) (sym (v .1 .ensures) ∙ v .2 .left) in omega arith)
-    (λ v. omega (arith, turns-le a))
+    (λ v. let h = leb-false middle count (sym (v .1 .ensures) ∙ v .2 .left) in omega arith)
+    (λ v. omega arith)
     (w .1 .came))))
     (c .if1 .came)
 
 cast-result : tie.Need-cast-result Inv-loop μ-loop
-cast-result c = omega (arith, turns-le (c .before .before .args .a))
+cast-result c = omega arith
 
 returns : tie.Need-returns Inv-loop μ-loop
 returns c = omega arith
@@ -66,4 +68,4 @@ returns c = omega arith
 pub quarter-turns-spec : {M : Type 1} → statement M
 quarter-turns-spec =
     tie.close
-    (tie.spec Inv-loop μ-loop loop-holds is-passed-requires add-if3 add-is-passed is-passed-requires-2 add-k sub-size loop-less loop-again cast-result returns)
+    (tie.spec Inv-loop μ-loop loop-holds comes-to-requires add-if3 add-comes-to comes-to-requires-2 add-k sub-size loop-less loop-again cast-result returns)
