@@ -12,7 +12,7 @@ use std::hint::black_box;
 /// A small angle, and one near the largest.
 const NEAR: f32 = 0.5;
 const FAR: f32 = 255.9;
-/// Angles by chance.
+/// Rotations are timed so many in a row: what it takes to ask for a single one would be as long as itself.
 const ANGLES: u32 = 4096;
 
 pub fn time(table: &mut Table) {
@@ -22,23 +22,24 @@ pub fn time(table: &mut Table) {
 }
 
 fn rotations(table: &mut Table) {
-    let any = angles();
-    for &angle in any.iter().chain([&NEAR, &FAR]) {
+    let [near, far, any] = [vec![NEAR; ANGLES as usize], vec![FAR; ANGLES as usize], angles()];
+    for &angle in near.iter().chain(&far).chain(&any) {
         let ours = ffi::rotate(angle).rotation;
         assert!(Rotation::at(angle).is_ok_and(|rotation| same(&rotation.floats(), &[ours.re, ours.im])));
     }
-    // Both angles by turns: a machine's clock may change between two lines.
-    let [near, near_rust, far, far_rust] =
-        least([&mut || ours(NEAR), &mut || rust(NEAR), &mut || ours(FAR), &mut || {
-            rust(FAR)
-        }]);
+    // By turns: a machine's clock may change between two lines.
+    let all = least([
+        &mut || near.iter().copied().for_each(ours),
+        &mut || near.iter().copied().for_each(rust),
+        &mut || far.iter().copied().for_each(ours),
+        &mut || far.iter().copied().for_each(rust),
+        &mut || any.iter().copied().for_each(ours),
+        &mut || any.iter().copied().for_each(rust),
+    ]);
+    let [near, near_rust, far, far_rust, any, any_rust] = all.map(|ns| ns / f64::from(ANGLES));
     table.line(&format!("rotation at {NEAR}"), Times::both(near, near_rust));
     table.line(&format!("rotation at {FAR}"), Times::both(far, far_rust));
-    let all = least([&mut || any.iter().copied().for_each(ours), &mut || {
-        any.iter().copied().for_each(rust)
-    }]);
-    let [each, each_rust] = all.map(|ns| ns / f64::from(ANGLES));
-    table.line("rotation, angles by chance", Times::both(each, each_rust));
+    table.line("rotation, angles by chance", Times::both(any, any_rust));
     table.remark(format!(
         "rotation: at {FAR} it takes {:.2} times as long as at {NEAR} (plain Rust: {:.2})",
         far / near,

@@ -39,21 +39,25 @@ fn comes_to(j: u32, a: f32) -> bool
     ((2 * j - 1) as f32) * 0.7853982 <= a
 }
 
-// How many of the 163 thresholds are at most a. The count lies from low to high, and a test in the middle halves that: 8 tests find it at any angle.
+// How many of the 163 thresholds are at most a. The count lies from k on and below k + size, and a test at the middle halves that: at most 8 tests leave one
+// number. While k is 0 a middle is a constant, and its threshold too: for small angles the tests cost least.
 fn quarter_turns(a: f32) -> usize
     ensures { λ r. ⌜ r ≡ quarterTurns a ⌝ }
 {
-    let mut low: u32 = 0;
-    let mut high: u32 = 163;
-    while low < high {
-        let middle = (low + high) / 2;
-        if comes_to(middle + 1, a) {
-            low = middle + 1;
-        } else {
-            high = middle;
+    let mut k: u32 = 0;
+    let mut size: u32 = 256;
+    while size > 1 {
+        let half = size / 2;
+        if k == 0 {
+            if comes_to(half, a) {
+                k = half;
+            }
+        } else if k + half <= 163 && comes_to(k + half, a) {
+            k += half;
         }
+        size -= half;
     }
-    low as usize
+    k as usize
 }
 
 fn magnitude(angle: f32) -> f32
