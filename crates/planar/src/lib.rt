@@ -40,7 +40,7 @@ fn comes_to(j: u32, a: f32) -> bool
 }
 
 // How many of the 163 thresholds are at most a. The count lies from k on and below k + size, and a test at the middle halves that: at most 8 tests leave one
-// number. While k is 0 a middle is a constant, and its threshold too: a small angle, which most are, has the cheapest tests.
+// number. While k is 0 a middle is a constant, and its threshold too: a small angle has the cheapest tests.
 fn quarter_turns(a: f32) -> usize
     ensures { λ r. ⌜ r ≡ quarterTurns a ⌝ }
 {
