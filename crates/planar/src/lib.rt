@@ -45,7 +45,7 @@ fn quarter_turns(a: f32) -> usize
     ensures { λ r. ⌜ r ≡ quarterTurns a ⌝ }
 {
     let mut k: u32 = 0;
-    let mut size: u32 = 256;
+    let mut size: u32 = 186;
     while size > 1 {
         let half = size / 2;
         if k == 0 {

@@ -10,7 +10,7 @@ use Rattle.planar.proofs.quarter_turns.Statement.{statement}
 use Rattle.planar.proofs.quarter_turns.Tie as tie
 
 abbrev Inv-loop : tie.InvT-loop
-Inv-loop a k₀ size₀ k size = (size ≤ 256) × (k ≤ 163) × (k ≤ quarterTurns a) × (quarterTurns a < k + size)
+Inv-loop a k₀ size₀ k size = (size ≤ 186) × (k ≤ 163) × (k ≤ quarterTurns a) × (quarterTurns a < k + size)
 
 abbrev μ-loop : tie.MeasureT-loop
 μ-loop a k₀ size₀ k size = size
