@@ -39,6 +39,7 @@ sub-size c = omega arith
 loop-less : tie.Need-loop-less Inv-loop μ-loop
 loop-less c = omega arith
 
+-- while k is 0, a middle that the count comes to, and one that it doesn't; later on the same two, and a middle past the last threshold
 loop-again : tie.Need-loop-again Inv-loop μ-loop
 loop-again c =
     let start : tie.Start Inv-loop μ-loop = search in
