@@ -106,6 +106,15 @@ impl Repository {
     }
 }
 
+/// None stays, but that of a test that failed: `rt ci` takes every crate below the project's folder that its list has not for a lost one.
+impl Drop for Repository {
+    fn drop(&mut self) {
+        if !std::thread::panicking() {
+            let _ = fs::remove_dir_all(&self.root);
+        }
+    }
+}
+
 /// What a run printed that must have succeeded.
 pub fn told(run: Output) -> String {
     assert!(run.status.success(), "{}", String::from_utf8_lossy(&run.stderr));
