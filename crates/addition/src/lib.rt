@@ -1,5 +1,7 @@
 // The addition of a link at the end of the list: it starts with zero coordinates and springs, takes its row entries, and is worked out from what is kept
 // of its parent.
+#![tactic(auto)]
+
 ghost use Rattle.std.specs.Prelude.{◌≡◌, min, ◌+◌, ◌≤◌, take};
 ghost use Rattle.addition.specs.Inner.{Small};
 ghost use Rattle.arm.specs.Inner.{handed_in};
@@ -29,7 +31,7 @@ use topology::parent_fits;
 
 // What the caller gives of a link. Numbers are any, so that none is cut.
 #[repr(C)]
-#[derive(Drop)]
+#[derive(Clone, Copy)]
 pub struct NewLink {
     pub tag: u32,
     pub parent: u32,

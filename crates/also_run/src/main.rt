@@ -1,5 +1,7 @@
 // What the library answers over constants, in the words of the replay script: the cases that document 01 lists, and an arm of six links through additions,
 // moves, a step, a root change and a split. tests/also_run.script has the same commands, and what `plain/` answers to them is `stdout`.
+#![tactic(auto)]
+
 ghost use Rattle.std.specs.Prelude.{◌≤◌, ◌<◌};
 
 use addition::{NewLink, add_link};

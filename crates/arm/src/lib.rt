@@ -1,5 +1,7 @@
 // An arm: a tree of links, couplings between their axes, and five rows over its degrees of freedom. Lists count up to their counts.
 // Every function here is an inner one: it answers for every arm and refuses nothing.
+#![tactic(auto)]
+
 ghost use Rattle.std.specs.Prelude.{◌≡◌, map, min, ◌≤◌, get_or, take};
 ghost use Rattle.lists.specs.Tests.{every};
 ghost use Rattle.limits.specs.Limits.{link_limit, dof_limit};
@@ -24,7 +26,7 @@ use topology::parents_fit;
 
 // A link, and what is kept of it: its world pose and its shifts.
 #[repr(C)]
-#[derive(Drop)]
+#[derive(Clone, Copy)]
 pub struct Link {
     pub tag: u32,
     pub parent: u8,
@@ -37,7 +39,7 @@ pub struct Link {
 
 // Two axes of two links, tied by a coefficient and an offset.
 #[repr(C)]
-#[derive(Drop)]
+#[derive(Clone, Copy)]
 pub struct Coupling {
     pub link1: u8,
     pub axis1: u8,
@@ -48,13 +50,13 @@ pub struct Coupling {
 }
 
 #[repr(C)]
-#[derive(Drop)]
+#[derive(Clone, Copy)]
 pub struct Row {
     pub entries: [f32; DOFS],
 }
 
 // Which row: its number is its place among the arm's rows.
-#[derive(Drop)]
+#[derive(Clone, Copy)]
 pub enum RowName {
     Velocities,
     Damping,
@@ -64,7 +66,7 @@ pub enum RowName {
 }
 
 #[repr(C)]
-#[derive(Drop)]
+#[derive(Clone, Copy)]
 pub struct Arm {
     pub link_count: usize,
     pub coupling_count: usize,
@@ -75,7 +77,7 @@ pub struct Arm {
 
 // The new arm; refused, the arm as it came, and where an arm is made (empty, parts) the empty one.
 #[repr(C)]
-#[derive(Drop)]
+#[derive(Clone, Copy)]
 pub struct Edited {
     pub arm: Arm,
     pub refusal: u8,
@@ -378,7 +380,7 @@ pub fn angle_fits(j: Joint) -> bool
 }
 
 // What one pass over the links that count finds: their tags, parents and locked masks, with 0 in unused places, and what is tested of each.
-#[derive(Drop)]
+#[derive(Clone, Copy)]
 struct LinkTests {
     tags: [u32; LINKS],
     parents: [u8; LINKS],
@@ -462,7 +464,7 @@ fn is_finite_coupling(c: Coupling) -> bool
 }
 
 // What is tested of every coupling that counts.
-#[derive(Drop)]
+#[derive(Clone, Copy)]
 struct CouplingTests {
     links: bool,
     axes: bool,
@@ -521,7 +523,7 @@ fn rows_finite(rows: [Row; 5], n: usize) -> bool
 
 // What is found of an arm handed in: the lowest of rules 2 to 5, 7 and 9 that it breaks, and its links' tags, parents and locked masks, with 0 in unused
 // places.
-#[derive(Drop)]
+#[derive(Clone, Copy)]
 pub struct HandedIn {
     pub refusal: u8,
     pub tags: [u32; LINKS],

@@ -1,5 +1,7 @@
 // The small edits of an arm: a row write, a spring, a coupling. Each is an entry point: links and axes are any numbers, the arm handed in is
 // tested, and the lowest refusal of all is given. A refusal returns the arm as it came.
+#![tactic(auto)]
+
 ghost use Rattle.std.specs.Prelude.{◌≡◌, ◌<◌};
 ghost use Rattle.arm.specs.Inner.{handed_in};
 ghost use Rattle.limits.specs.Limits.{dof_limit};
@@ -109,7 +111,7 @@ pub fn set_spring(arm: Arm, link: u32, axis: u32, spring: Spring) -> Edited
 
 // A coupling as it is given: two links with an axis each, of any numbers.
 #[repr(C)]
-#[derive(Drop)]
+#[derive(Clone, Copy)]
 pub struct NewCoupling {
     pub link1: u32,
     pub axis1: u32,

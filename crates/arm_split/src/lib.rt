@@ -1,4 +1,6 @@
 // The split of an arm: its map, and each part handed out as an arm.
+#![tactic(auto)]
+
 ghost use Rattle.std.specs.Prelude.{◌≡◌};
 ghost use Rattle.refusal.specs.Counted.{out};
 ghost use Rattle.topology.specs.Answers.{split_answer};

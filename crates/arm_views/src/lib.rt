@@ -1,5 +1,7 @@
 // What is read of an arm: starts, springs, accelerations on their axes, the branch of a link, a link's own part of a row. Each is an entry
 // point: links and axes are any numbers, the arm handed in is tested, and the lowest refusal of all is given.
+#![tactic(auto)]
+
 ghost use Rattle.std.specs.Prelude.{◌≡◌};
 ghost use Rattle.refusal.specs.Counted.{out};
 ghost use Rattle.arm_views.specs.Numbers.{start_refusal, start_answer, dofs_answer};
@@ -53,7 +55,7 @@ fn spring_refusal(arm: Arm, link: u32, axis: u32) -> u8
 }
 
 #[repr(C)]
-#[derive(Drop)]
+#[derive(Clone, Copy)]
 pub struct SpringAnswer {
     pub refusal: u8,
     pub spring: Spring,
@@ -97,7 +99,7 @@ fn mul_refusal(arm: Arm, link: u32, accelerations: &[f32]) -> u8
 }
 
 #[repr(C)]
-#[derive(Drop)]
+#[derive(Clone, Copy)]
 pub struct AxesAnswer {
     pub refusal: u8,
     pub axes: [f32; 3],
@@ -160,7 +162,7 @@ pub fn kinematic_branch(arm: Arm, link: u32, to: &mut [u8]) -> Counted
 // ---- A link's own part of a row
 
 // Which of the two lent rows is asked for.
-#[derive(Drop)]
+#[derive(Clone, Copy)]
 pub enum Role {
     Velocities,
     Accelerations,

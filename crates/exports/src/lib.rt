@@ -1,5 +1,7 @@
 // The entry points that give an arm, the rotation and the solve, as C functions for Rust. Each is its entry point and nothing more: the contract cites
 // the same definition; the solve's refusal has a count beside it. An arm goes in and comes out by value; what an enum names is a function for each case.
+#![tactic(auto)]
+
 ghost use Rattle.std.specs.Prelude.{◌≡◌};
 ghost use Rattle.refusal.specs.Counted.{out as solved};
 ghost use Rattle.planar.specs.Rotation.{rotated};

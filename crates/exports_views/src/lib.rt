@@ -1,5 +1,7 @@
 // The entry points that read an arm, a mask or a bare list, as C functions for Rust. Each is its entry point and nothing more: the contract cites the
 // same definition. An arm goes in by value; a part of a lent row comes back as offset and length.
+#![tactic(auto)]
+
 ghost use Rattle.std.specs.Prelude.{◌≡◌};
 ghost use Rattle.refusal.specs.Counted.{out};
 ghost use Rattle.topology.specs.declared.Split.TheVariants.{Delete, Cut};
@@ -119,7 +121,7 @@ pub extern "C" fn giellavor_arm_split_cut(arm: Arm, link: u32, map: &mut [u8]) -
 
 // Where a link's own part of a lent row stands in it; zeros where refused.
 #[repr(C)]
-#[derive(Drop)]
+#[derive(Clone, Copy)]
 pub struct RowPart {
     pub refusal: u8,
     pub offset: usize,

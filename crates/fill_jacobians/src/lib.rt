@@ -1,5 +1,7 @@
 // `fill_jacobians`: what a force on a link does along each degree of freedom. An entry point: the link is any number, the arm handed in is tested, and the
 // lowest refusal of all is given. A refusal leaves all lent memory as it was.
+#![tactic(auto)]
+
 ghost use Rattle.std.specs.Prelude.{◌≡◌, ◌*◌, ◌≤◌, length};
 ghost use Rattle.limits.specs.Limits.{dof_limit, block_size};
 ghost use Rattle.arm.specs.Arm.{entries_to};
@@ -16,7 +18,7 @@ use unit_multibody_joint::memory_fits;
 
 // A force and a torque on a link.
 #[repr(C)]
-#[derive(Drop)]
+#[derive(Clone, Copy)]
 pub struct Force {
     pub x: f32,
     pub y: f32,
@@ -25,7 +27,7 @@ pub struct Force {
 
 // j·wj and j·velocities; zeros where refused.
 #[repr(C)]
-#[derive(Drop)]
+#[derive(Clone, Copy)]
 pub struct Sums {
     pub refusal: u8,
     pub j_wj: f32,

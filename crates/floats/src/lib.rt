@@ -1,4 +1,6 @@
 // Floats in a row: which are finite, copies of a row and of parts, sums of products.
+#![tactic(auto)]
+
 ghost use Rattle.std.specs.Prelude.{◌≡◌, ◌+◌, ◌≤◌, leb, length};
 ghost use Rattle.floats.specs.Inner.{overlaid, copied_part, moved_part};
 ghost use Rattle.lists.specs.Lists.{part, with_part};

@@ -1,4 +1,6 @@
 // The working of an arm over its lent tables: what every call that works an arm out ends in, the full working, and the empty arm.
+#![tactic(auto)]
+
 ghost use Rattle.std.specs.Prelude.{◌≡◌};
 ghost use Rattle.full_working.specs.Outcome.{out, tables_fit, worked_by, worked_all};
 ghost use Rattle.full_working.specs.Full.{full_refusal, full_working};

@@ -1,5 +1,7 @@
 // Kinematics: a link's world pose, shifts and Jacobian block from what is kept of its parent, and the pass that refreshes marked links.
 // Poses and shifts are kept in the links, Jacobian blocks in lent tables.
+#![tactic(auto)]
+
 ghost use Rattle.std.specs.Prelude.{◌≡◌, cond, ◌+◌, ◌*◌, ◌≤◌, ◌<◌, ltb, length};
 ghost use Rattle.kinematics.specs.Inner.{copied_from, posed_of, TurnedTo, blocks_of, WorkedOut, blocks_laid, one_fits, turned_out, refresh_one};
 ghost use Rattle.limits.specs.Limits.{link_limit, dof_limit, block_size, table_size};
@@ -69,7 +71,7 @@ fn add_own_columns(block: &mut [f32], locked: u8, start: usize, turn: Rotation)
 // ---- One link
 
 // Where a link is: what is kept of it but its block, and the rotation of its own columns.
-#[derive(Drop)]
+#[derive(Clone, Copy)]
 pub struct Posed {
     pub world: Pose,
     pub shift02: Point,
@@ -138,7 +140,7 @@ fn is_finite_place(world: Pose, shift02: Point, shift23: Point) -> bool
 }
 
 // A link as its turn leaves it, and whether every result is finite.
-#[derive(Drop)]
+#[derive(Clone, Copy)]
 pub struct Turned {
     pub link: Link,
     pub fine: bool,
@@ -179,7 +181,7 @@ fn copy_parent(work: &mut [f32], tables: &[f32], p: usize, j: usize, fresh: bool
 }
 
 // The links that a pass leaves, and whether every result that it worked out is finite.
-#[derive(Drop)]
+#[derive(Clone, Copy)]
 pub struct Refreshed {
     pub links: [Link; LINKS],
     pub fine: bool,

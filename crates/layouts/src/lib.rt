@@ -1,4 +1,6 @@
 // Every struct that crosses the C boundary, made of its fields: what the tests of the layouts in Rust and C call.
+#![tactic(auto)]
+
 ghost use Rattle.std.specs.Prelude.{◌≡◌};
 ghost use Rattle.layouts.specs.Laid.{laid_rotation, laid_point, laid_pose, laid_joint, laid_spring, laid_link, laid_coupling, laid_row, laid_arm, laid_new_link, laid_new_coupling, laid_limits, laid_force, laid_edited, laid_rotated, laid_counted, laid_row_part, laid_spring_answer, laid_axes_answer, laid_constraint_row, laid_sums};
 

@@ -1,4 +1,6 @@
 // How large an arm may be. Every size of the library is one of these.
+#![tactic(auto)]
+
 ghost use Rattle.std.specs.Prelude.{◌≡◌, min};
 
 pub const LINKS: usize = 16;

@@ -1,5 +1,7 @@
 // Masks of a joint, locked, limit and motor: bit 0 is X, bit 1 is Y, bit 2 the angle. Bits above 2 never count.
 // Inner functions take a joint's bytes and refuse nothing. Entry points take masks and axes as any number, so that none is cut.
+#![tactic(auto)]
+
 ghost use Rattle.std.specs.Prelude.{◌≡◌, ◌≤◌, length};
 ghost use Rattle.lists.specs.Lists.{laid};
 ghost use Rattle.refusal.specs.Counted.{out};

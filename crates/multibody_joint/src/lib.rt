@@ -1,4 +1,6 @@
 // A joint between a link and its parent: which axes are free, where its frames stand, and where it is along its axes.
+#![tactic(auto)]
+
 ghost use Rattle.std.specs.Prelude.{◌≡◌, ◌<◌};
 ghost use Rattle.multibody_joint.specs.Joint.{new_joint, with_frames, with_motion, slid_by, body_to_parent, free_joint, fixed_joint, free_pos_set};
 ghost use Rattle.multibody_joint.specs.Motion.{integrated_at, renewed, integrated, on_axis, on_axes};
@@ -9,7 +11,7 @@ use masks::{dofs_below, is_free};
 use planar::{Pose, Rotation, identity, rotation_of};
 
 #[repr(C)]
-#[derive(Drop)]
+#[derive(Clone, Copy)]
 pub struct Joint {
     pub locked: u8,
     pub limit: u8,
@@ -23,7 +25,7 @@ pub struct Joint {
 }
 
 #[repr(C)]
-#[derive(Drop)]
+#[derive(Clone, Copy)]
 pub struct Spring {
     pub stiffness: f32,
     pub rest: f32,

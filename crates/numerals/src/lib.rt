@@ -1,5 +1,7 @@
 // Numbers as text and as bytes: decimal digits, bytes lowest first, and the bits of an f32.
 // What is written goes into a lent buffer at a position; given is the position after it. What does not fit is not written, and the position stays.
+#![tactic(auto)]
+
 ghost use Rattle.std.specs.Prelude.{◌≡◌, ◌≤◌, drop, get_or, length};
 ghost use Rattle.std.specs.Float.{binary32};
 ghost use Rattle.std.specs.Float.Ieee.{of_bits, to_bits};
@@ -29,7 +31,7 @@ pub fn write_bytes(out: &mut [u8], at: usize, bytes: &[u8]) -> usize
 // ---- Decimal digits
 
 // A number's digits are those from `first` on.
-#[derive(Drop)]
+#[derive(Clone, Copy)]
 struct Decimal {
     digits: [u8; 10],
     first: usize,

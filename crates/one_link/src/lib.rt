@@ -1,4 +1,6 @@
 // What a call on one link, a move or an addition, reads of the tables, and what it promises of an arm and tables that are settled.
+#![tactic(auto)]
+
 ghost use Rattle.std.specs.Prelude.{◌≡◌};
 ghost use Rattle.one_link.specs.Above.{above_finite};
 

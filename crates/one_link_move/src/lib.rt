@@ -1,5 +1,7 @@
 // A one-link move: one free coordinate, both frames or the centre of mass of a link is set; then it and the links below it are worked out from what is
 // kept of its parent.
+#![tactic(auto)]
+
 ghost use Rattle.std.specs.Prelude.{◌≡◌, min, take};
 ghost use Rattle.one_link_move.specs.Inner.{tests_of, leaf, answered};
 ghost use Rattle.arm.specs.Inner.{handed_in};
@@ -27,7 +29,7 @@ use refusal::{lowest, unless};
 use topology::at_or_below;
 
 // What a move sets.
-#[derive(Drop)]
+#[derive(Clone, Copy)]
 pub enum Change {
     Coordinate { axis: u32, value: f32 },
     Frames { first: Pose, second: Pose },
@@ -36,7 +38,7 @@ pub enum Change {
 
 // ---- What is tested of a change
 
-#[derive(Drop)]
+#[derive(Clone, Copy)]
 struct ChangeTests {
     axis: bool,
     free: bool,

@@ -1,4 +1,6 @@
 // One part of a split as an arm: where its links go, and what of links, rows and couplings goes with them. Inner functions: they refuse nothing.
+#![tactic(auto)]
+
 ghost use Rattle.std.specs.Prelude.{◌≡◌, map, ◌+◌};
 ghost use Rattle.part_arm.specs.Inner.{part_in, number_in, here_in, head_in, places_in, links_out, couplings_out};
 ghost use Rattle.part_arm.specs.Places.{goes_on};
@@ -65,7 +67,7 @@ fn new_link(head: bool, parent: u8, l: Link) -> Link
     with_inputs(l, parent, l.joint, l.centre)
 }
 
-#[derive(Drop)]
+#[derive(Clone, Copy)]
 struct LinksOut {
     count: usize,
     links: [Link; LINKS],
@@ -148,7 +150,7 @@ fn new_coupling(places: [u8; MAP], c: Coupling) -> Coupling
     }
 }
 
-#[derive(Drop)]
+#[derive(Clone, Copy)]
 struct CouplingsOut {
     count: usize,
     couplings: [Coupling; COUPLINGS],

@@ -1,4 +1,6 @@
 // The plane in f32: the rotation of an angle, and poses.
+#![tactic(auto)]
+
 ghost use Rattle.std.specs.Prelude.{◌≡◌, ◌≤◌, ◌<◌, leb};
 ghost use Rattle.planar.specs.Rotation.{quarter_turns, magnitude_of, reduced_by, sine_of, cosine_of, quarter_pair, signed_by, rotation_at, is_beyond, rotation_refusal, rotated};
 ghost use Rattle.planar.specs.Poses.{rotation_of, translation_of, posed, identity_pose, rotation_product, turned_by, placed_by, point_difference, pose_product, pose_inverse, is_turn, finite_rotation, finite_point, finite_pose};
@@ -7,14 +9,14 @@ use floats::finite;
 use refusal::{lower, unless};
 
 #[repr(C)]
-#[derive(Drop)]
+#[derive(Clone, Copy)]
 pub struct Rotation {
     pub re: f32,
     pub im: f32,
 }
 
 #[repr(C)]
-#[derive(Drop)]
+#[derive(Clone, Copy)]
 pub struct Point {
     pub x: f32,
     pub y: f32,
@@ -22,7 +24,7 @@ pub struct Point {
 
 // A rotation and a translation.
 #[repr(C)]
-#[derive(Drop)]
+#[derive(Clone, Copy)]
 pub struct Pose {
     pub re: f32,
     pub im: f32,
@@ -154,7 +156,7 @@ fn rotation_refusal(angle: f32) -> u8
 }
 
 #[repr(C)]
-#[derive(Drop)]
+#[derive(Clone, Copy)]
 pub struct Rotated {
     pub refusal: u8,
     pub rotation: Rotation,

@@ -1,5 +1,7 @@
 // What the Rust plug-in calls: splits and counts as C functions over numbers and byte slices. Each answers as its entry point does: a refusal, or 0 and a
 // count. A refusal writes nothing.
+#![tactic(auto)]
+
 ghost use Rattle.std.specs.Prelude.{◌≡◌, ◌*◌, ◌≤◌, length};
 ghost use Rattle.lists.specs.Lists.{laid};
 ghost use Rattle.refusal.specs.Counted.{out};

@@ -1,4 +1,6 @@
 // Refusals: a number for each, where 0 is none. Several at once give the lowest.
+#![tactic(auto)]
+
 ghost use Rattle.std.specs.Prelude.{◌≡◌};
 ghost use Rattle.refusal.specs.Refusal.{unless_of, lower_of, lowest};
 ghost use Rattle.refusal.specs.Counted.{counted_of};
@@ -38,7 +40,7 @@ pub fn lowest(refusals: &[u8]) -> u8
 
 // What a call that counts answers: a refusal and a zero count, or 0 and what was counted.
 #[repr(C)]
-#[derive(Drop)]
+#[derive(Clone, Copy)]
 pub struct Counted {
     pub refusal: u8,
     pub count: usize,

@@ -1,4 +1,6 @@
 // The root change of an arm (`update_root_type`): the root is fixed or free at a pose, then the arm is worked out in full.
+#![tactic(auto)]
+
 ghost use Rattle.std.specs.Prelude.{◌≡◌};
 ghost use Rattle.full_working.specs.Outcome.{out};
 ghost use Rattle.root_change.specs.declared.Root.TheVariants.{Free, Fixed};
@@ -13,7 +15,7 @@ use planar::{Pose, is_finite_pose, is_turn, rotation_of};
 use refusal::{lowest, unless};
 
 // What a root is changed to: free or fixed, at a pose.
-#[derive(Drop)]
+#[derive(Clone, Copy)]
 pub enum Root {
     Free(Pose),
     Fixed(Pose),

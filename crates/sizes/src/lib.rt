@@ -1,5 +1,7 @@
 // The version of what crosses to C, and the size of each struct that does: whoever links the archive can ask whether it is laid out as he declares it.
 // A size is that of the fields with the bytes that C leaves free between them and at the end.
+#![tactic(auto)]
+
 ghost use Rattle.std.specs.Prelude.{◌≡◌};
 ghost use Rattle.sizes.specs.Sizes.{version_number, size_of};
 

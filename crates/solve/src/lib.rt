@@ -1,4 +1,6 @@
 // The solve of a matrix and a right side, by the factors of the matrix.
+#![tactic(auto)]
+
 ghost use Rattle.std.specs.Prelude.{◌≡◌, ◌*◌, ◌<◌, ◌≤◌, length, take};
 ghost use Rattle.limits.specs.Limits.{dof_limit};
 ghost use Rattle.solve.specs.Buffers.{small_size};

@@ -1,4 +1,6 @@
 // What bench/ times and no export offers, as a C function.
+#![tactic(auto)]
+
 ghost use Rattle.std.specs.Prelude.{◌≡◌};
 ghost use Rattle.planar.specs.Poses.{pose_product};
 

@@ -1,4 +1,6 @@
 // Parents as a list of bytes, link j's at place j: rule 4, the way from the root to a link, what is at or below one, and the split.
+#![tactic(auto)]
+
 ghost use Rattle.std.specs.Prelude.{◌≡◌, true, ◌++◌, ◌*◌, ◌≤◌, length, take, drop};
 ghost use Rattle.refusal.specs.Counted.{out};
 ghost use Rattle.lists.specs.Numbers.{each};
@@ -12,7 +14,7 @@ use limits::{LINKS, fewer};
 use refusal::{Counted, lowest, unless};
 
 // How an arm is split: a link is deleted, or its joint only is cut.
-#[derive(Drop)]
+#[derive(Clone, Copy)]
 pub enum Split {
     Delete(usize),
     Cut(usize),
@@ -154,7 +156,7 @@ fn is_head(s: Split, j: usize, p: usize) -> bool
 }
 
 // The part of each link, GONE for the deleted one, and the part count.
-#[derive(Drop)]
+#[derive(Clone, Copy)]
 struct Parts {
     of: [u8; LINKS],
     count: usize,

@@ -1,5 +1,7 @@
 // The constraint rows of one degree of freedom: its limit and its friction. Both are entry points: links and axes are any numbers, the arm handed in
 // is tested, and the lowest refusal of all is given. A refusal leaves all lent memory as it was.
+#![tactic(auto)]
+
 ghost use Rattle.std.specs.Prelude.{◌≡◌, ◌*◌, ◌<◌, ◌≤◌, length};
 ghost use Rattle.limits.specs.Limits.{dof_limit};
 ghost use Rattle.unit_multibody_joint.specs.Outcome.{out};
@@ -24,7 +26,7 @@ const MINUS_ZERO: f32 = -0.0;
 
 // What the host gives of a limit.
 #[repr(C)]
-#[derive(Drop)]
+#[derive(Clone, Copy)]
 pub struct Limits {
     pub position: f32,
     pub min: f32,
@@ -36,7 +38,7 @@ pub struct Limits {
 
 // A row: between which bounds its impulse lies, its right side, and the gains of its DoF. A refused one is all zeros.
 #[repr(C)]
-#[derive(Drop)]
+#[derive(Clone, Copy)]
 pub struct ConstraintRow {
     pub refusal: u8,
     pub lower: f32,
@@ -47,7 +49,7 @@ pub struct ConstraintRow {
 }
 
 // What of a row doesn't depend on the mass matrix.
-#[derive(Drop)]
+#[derive(Clone, Copy)]
 pub struct Bounds {
     pub lower: f32,
     pub upper: f32,

@@ -1,4 +1,6 @@
 // The whole step of an arm (`integrate` of the multibody): every joint is integrated by one dt, then the arm is worked out in full.
+#![tactic(auto)]
+
 ghost use Rattle.std.specs.Prelude.{◌≡◌};
 ghost use Rattle.whole_step.specs.Inner.{step_tests_of};
 ghost use Rattle.full_working.specs.Outcome.{out};
@@ -54,7 +56,7 @@ fn step_arm(arm: Arm, dt: f32) -> Arm
 // ---- The step
 
 // What is tested of every link that was integrated.
-#[derive(Drop)]
+#[derive(Clone, Copy)]
 struct StepTests {
     angles: bool,
     floats: bool,
