@@ -1,0 +1,10 @@
+-- `is_new_tag`: over the tags that count. Assumes nothing.
+use mathlib.Core.Path.{◌∙◌, ap, refl}
+use Rattle.lists.proofs.Lists.{front}
+use Rattle.arm.specs.HandedIn.{is_new}
+use borrow.Author.Rules.{rules}
+use Rattle.addition.proofs.is_new_tag.Goals as goal
+
+pub returns : goal.returns
+returns c =
+    c.is_new.ensures ∙ ap (is_new c.args.tag) (front _ _ c.live_links-n.ensures refl)

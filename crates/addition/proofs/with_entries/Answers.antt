@@ -1,0 +1,11 @@
+-- `with_entries`: the values are copied to their place in the row. Assumes nothing.
+use native.Mathlib.Omega.{arith}
+use Rattle.arm.proofs.Shape.{row-length}
+use Rattle.addition.proofs.Entries.{entries_set_lem}
+use borrow.Author.Rules.{rules}
+use Rattle.addition.proofs.with_entries.Goals as goal
+
+pub returns : goal.returns
+returns c =
+    entries_set_lem c.args.row c.args.start c.args.n c.args.t4 _
+    (omega (arith, row-length c.args.row c.well_formed.0)) (omega arith) c.copy_part.ensures

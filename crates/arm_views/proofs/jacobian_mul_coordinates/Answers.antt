@@ -1,0 +1,44 @@
+-- `jacobian_mul_coordinates`: an accepted call's link is in the array; a refusal gives zeros. Assumes nothing.
+use Prim.Native.Nat.{◌<◌}
+use mathlib.Core.Path.{◌∙◌, sym}
+use native.Mathlib.Omega.{arith}
+use borrow.Author.Rules.{rules}
+use Rattle.arm.specs.Arm.{live_links}
+use Rattle.arm.proofs.Accepted.{live}
+use Rattle.arm.proofs.Shape.{links_length}
+use Rattle.multibody_joint.specs.Joint.{zeros}
+use Rattle.arm_views.specs.Links.{axes_in, mul_answer}
+use Rattle.arm_views.proofs.Accepted.{mul-there}
+use Rattle.arm_views.proofs.Answers.{axes_none, axes_some, of_link_lem}
+use Rattle.arm_views.proofs.jacobian_mul_coordinates.Goals as goal
+
+-- ---- seen from where the call is accepted
+
+pub returns-then-refusal-ne0 : goal.returns-then-refusal-ne0
+unfolding mul_answer
+returns-then-refusal-ne0 c = axes_some _ _ _ c.mul_refusal-refusal.ensures c.if-refusal-ne0.true
+
+pub offset_bounds-arm-at : goal.offset_bounds-arm-at
+offset_bounds-arm-at c =
+    let in_array : c.args.link < live_links c.args.t1 = let given = c.args in
+    live given.t1 given.link
+    (mul-there given.t1 given.link given.accelerations.now (sym c.mul_refusal-refusal.ensures ∙ c.if-refusal-ne0.false)) in
+    omega (arith, in_array)
+
+pub bounds-arm-at : goal.bounds-arm-at
+bounds-arm-at c =
+    let in_array : c.args.link < live_links c.args.t1 = let given = c.args in
+    live given.t1 given.link
+    (mul-there given.t1 given.link given.accelerations.now (sym c.mul_refusal-refusal.ensures ∙ c.if-refusal-ne0.false)) in
+    omega (arith, in_array)
+
+pub returns : goal.returns
+unfolding mul_answer
+returns c =
+    let in_array : c.args.link < live_links c.args.t1 = let given = c.args in
+    live given.t1 given.link
+    (mul-there given.t1 given.link given.accelerations.now (sym c.mul_refusal-refusal.ensures ∙ c.if-refusal-ne0.false)) in
+    let given = c.args in
+    let whole = links_length given.t1 c.well-formed.0 in
+    axes_none _ _ _ _ c.mul_refusal-refusal.ensures c.if-refusal-ne0.false
+    (c.jacobian_mul_coordinates.ensures ∙ of_link_lem (axes_in given.accelerations.now) zeros given.t1 given.link _ whole in_array)

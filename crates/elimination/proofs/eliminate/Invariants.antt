@@ -1,0 +1,20 @@
+-- `eliminate`: the columns done, with those that are left, give the factors; at the end, and at a zero pivot, only the test of the rows is left.
+use Prim.Native.Nat.{◌*◌, ◌+◌, ◌-◌, ◌<◌, ◌≤◌, ℕ}
+use mathlib.Core.List.{List, []}
+use mathlib.Core.Path.{◌∙◌, ◌≡◌, ap, sym}
+use native.Mathlib.Nat.{sub-zero}
+use native.Mathlib.Omega.{arith}
+use borrow.Author.Rules.{rules}
+use lib.ListN.{length, length-set, take}
+use lib.Seq.{take_all}
+use Rattle.elimination.specs.Elimination.{columns, factored, factors}
+use Rattle.elimination.proofs.Rows.{at_inside, inside}
+use Rattle.elimination.proofs.Columns.{columns_end, columns_more, columns_zero, swaps_more, tested}
+use Rattle.elimination.proofs.eliminate.Given as goal
+
+abbrev pub invariant-loop-k : goal.invariant-loop-k
+invariant-loop-k l =
+    (l.k ≤ l.n) × (length l.rows ≡ l.n * l.n) × (length l.swaps ≡ l.n) × (length l.pivot ≡ l.n) × (factored l.n l.initial.rows ≡ columns l.n (l.n - l.k) l.k l.rows (take l.k l.swaps))
+
+abbrev pub decreases-loop-k : goal.decreases-loop-k
+decreases-loop-k l = l.n - l.k

@@ -1,0 +1,19 @@
+-- `pivot_row`: the row of greatest value so far, with the rows that are left, gives the pivot's row; `at` is column k of the row before i.
+use Rattle.elimination.proofs.Rows.{at_inside, inside, next}
+use Rattle.elimination.proofs.Pivot.{greatest_end, greatest_more}
+use Rattle.elimination.specs.Elimination.{absolute, entry, greatest, pivot_row}
+use lib.Ieee.{nan}
+use lib.ListN.{get_or, length}
+use Prim.Native.Nat.{◌*◌, ◌+◌, ◌-◌, ◌<◌, ◌≤◌, ℕ}
+use mathlib.Core.Logic.{⊎_elim}
+use mathlib.Core.Bool.{false, true}
+use mathlib.Core.Path.{◌∙◌, ◌≡◌, ap, refl, sym}
+use native.Mathlib.Omega.{arith}
+use borrow.Author.Rules.{rules}
+use Rattle.elimination.proofs.pivot_row.Given as goal
+
+abbrev pub invariant-loop-i : goal.invariant-loop-i
+invariant-loop-i l = (l.k < l.i) × (l.i ≤ l.n) × (l.k ≤ l.p) × (l.p < l.n) × (l.at + l.n ≡ l.i * l.n + l.k) × (l.greatest ≡ absolute (entry l.n l.p l.k l.rows)) × (pivot_row l.n l.k l.rows ≡ greatest l.n l.k l.rows (l.n - l.i) l.i l.p)
+
+abbrev pub decreases-loop-i : goal.decreases-loop-i
+decreases-loop-i l = l.n - l.i

@@ -1,0 +1,69 @@
+-- `sum_up`: the local wj is the definition's; each way out is its case of the refusals after the tests. Assumes nothing.
+use mathlib.Core.Path.{◌∙◌, ap₂, refl, sym}
+use mathlib.Core.Bool.{Bool, ◌&&◌}
+use mathlib.Core.List.{List}
+use borrow.Author.Tests.{not-true, not-false}
+use lib.ListN.{length}
+use lib.Ieee.{Float}
+use Rattle.floats.specs.Floats.{all_finite}
+use Rattle.arm.specs.Arm.{entries_to}
+use Rattle.unit_multibody_joint.proofs.Answers.{Ran, in_trouble, not_finite, all_made}
+use Rattle.fill_jacobians.specs.declared.Sums.{Sums}
+use Rattle.fill_jacobians.specs.Sums.{sums_of, refused_sums, finite_sums, sums_answer}
+use Rattle.fill_jacobians.proofs.Rows.{sums_front}
+use borrow.Author.Rules.{rules}
+use Rattle.fill_jacobians.proofs.sum_up.Goals as goal
+
+-- the solve that was run
+
+pub returns-then-trouble-ne0 : goal.returns-then-trouble-ne0
+unfolding sums_answer
+returns-then-trouble-ne0 c =
+    let ran_of : Type 0 = let a = c.args in
+    let v = c.solve_any-trouble in
+    Ran (length a.row.now) a.row.now a.mass.now v.new.res v.result in
+    let ran : ran_of = let p = c.requires in record { few = p.0; long = refl; matrix = p.1; same = c.solved-2-1.given; left = c.solve_any-trouble.ensures } in
+    let made : List Float → Sums = λ w. let a = c.args in sums_of a.row.now w (entries_to (length a.row.now) a.velocities) in
+    let fine : Sums → Bool = λ x. all_finite c.args.row.now && finite_sums x in
+    let a = c.args in
+    in_trouble refused_sums fine made ran a.j.now a.wj.now c.if-trouble-ne0.true c.refused_sums.result c.refused_sums.ensures
+
+pub returns-then-not-fine : goal.returns-then-not-fine
+unfolding sums_answer
+returns-then-not-fine c =
+    let ran_of : Type 0 = let a = c.args in
+    let v = c.solve_any-trouble in
+    Ran (length a.row.now) a.row.now a.mass.now v.new.res v.result in
+    let ran : ran_of = let p = c.requires in record { few = p.0; long = refl; matrix = p.1; same = c.solved-2-1.given; left = c.solve_any-trouble.ensures } in
+    let made : List Float → Sums = λ w. let a = c.args in sums_of a.row.now w (entries_to (length a.row.now) a.velocities) in
+    let fine : Sums → Bool = λ x. all_finite c.args.row.now && finite_sums x in
+    let wild : tie.Then2 = c in
+    let summed : tie.After-sums-of = wild.before.before.before in
+    let good : tie.Else1 = summed.before.before in
+    let z = good.before in
+    let a = z.args in
+    let sums = summed.sums-of in
+    let tested = ap₂ ◌&&◌ wild.before.before.all-finite.ensures wild.before.are-finite-sums.ensures in
+    not_finite refused_sums fine made ran a.j.now a.wj.now good.if1.false sums.result (sums.ensures ∙ sums_front a.row.now _ _)
+    (sym tested ∙ not-true _ wild.if2.true) c.refused_sums-then-not-fine.result c.refused_sums-then-not-fine.ensures
+
+pub returns : goal.returns
+unfolding sums_answer
+returns c =
+    let ran_of : Type 0 = let a = c.args in
+    let v = c.solve_any-trouble in
+    Ran (length a.row.now) a.row.now a.mass.now v.new.res v.result in
+    let ran : ran_of = let p = c.requires in record { few = p.0; long = refl; matrix = p.1; same = c.solved-2-1.given; left = c.solve_any-trouble.ensures } in
+    let made : List Float → Sums = λ w. let a = c.args in sums_of a.row.now w (entries_to (length a.row.now) a.velocities) in
+    let fine : Sums → Bool = λ x. all_finite c.args.row.now && finite_sums x in
+    let finite : tie.Else2 = c in
+    let summed : tie.After-sums-of = finite.before.before.before in
+    let good : tie.Else1 = summed.before.before in
+    let z = good.before in
+    let s = z in
+    let a = s.args in
+    let sums = summed.sums-of in
+    let tested = ap₂ ◌&&◌ finite.before.before.all-finite.ensures finite.before.are-finite-sums.ensures in
+    let y = c.copy_part in
+    all_made refused_sums fine made ran a.j.now a.wj.now good.if1.left sums.result (sums.ensures ∙ sums_front a.row.now _ _)
+    (sym tested ∙ not-false _ finite.if2.left) s.pre.2 s.pre.3 c.copy.new.to y.new.to c.copy.ensures y.ensures

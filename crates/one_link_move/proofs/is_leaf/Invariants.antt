@@ -1,0 +1,17 @@
+-- `is_leaf`: what is tested so far. Assumes nothing.
+use Rattle.one_link_move.specs.Inner.{leaf, no_child}
+use Rattle.lists.specs.Numbers.{all_below}
+use Rattle.one_link_move.proofs.Leaf.{leaf_more}
+use lib.Seq.{length-take-le}
+use lib.ListN.{length, take}
+use Prim.Native.Nat.{◌-◌, ◌≤◌, ℕ}
+use mathlib.Core.Path.{◌∙◌, ◌≡◌, ap, refl}
+use native.Mathlib.Omega.{arith}
+use borrow.Author.Rules.{rules}
+use Rattle.one_link_move.proofs.is_leaf.Given as goal
+
+abbrev pub invariant-loop-i : goal.invariant-loop-i
+invariant-loop-i l = (l.i ≤ l.n) × (l.ok ≡ all_below l.i (no_child (take l.n l.parents) l.link))
+
+abbrev pub decreases-loop-i : goal.decreases-loop-i
+decreases-loop-i l = l.n - l.i

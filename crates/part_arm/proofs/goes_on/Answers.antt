@@ -1,0 +1,6 @@
+-- `goes_on`: here, and no head. Assumes nothing.
+use borrow.Author.Rules.{rules}
+use Rattle.part_arm.proofs.goes_on.Goals as goal
+
+pub returns : goal.returns
+returns c = cc

@@ -1,0 +1,20 @@
+-- `links_out`: the links passed so far that are in the part stand in front, rising, and the count is theirs. Assumes nothing.
+use mathlib.Core.Logic.{⊎_elim}
+use native.Mathlib.Omega.{arith}
+use mathlib.Core.Path.{◌≡◌, refl, sym, ap, ◌∙◌}
+use Prim.Native.Nat.{◌-◌, ◌≤◌, ◌<◌}
+use Rattle.limits.specs.Limits.{link_limit}
+use borrow.Author.Rules.{rules}
+use Rattle.part_arm.specs.Inner.{places_in}
+use Rattle.arm.specs.Empty.{empty_arm}
+use Rattle.lists.proofs.Gathered.{Laid, laid_none, laid_as}
+use Rattle.arm.specs.declared.Arm.{Arm}
+use Rattle.part_arm.proofs.Turns.{link_turn, link_room, link_here, link_elsewhere, links_done}
+use Rattle.arm.specs.Arm.{live_links}
+use Rattle.part_arm.proofs.links_out.Given as goal
+
+abbrev pub invariant-loop-j : goal.invariant-loop-j
+invariant-loop-j l = (l.n ≡ live_links l.arm) × (l.j ≤ l.n) × Laid (link_turn (places_in l.places l.k) l.arm) empty_arm.links l.j l.links l.count
+
+abbrev pub decreases-loop-j : goal.decreases-loop-j
+decreases-loop-j l = l.n - l.j

@@ -1,0 +1,26 @@
+-- `quarter`: each arm is its remainder's pair. Assumes nothing.
+use mathlib.Core.Path.{◌≡◌, refl}
+use Prim.Native.Nat.{ℕ, zero, suc}
+use lib.Ieee.{Float, neg}
+use Rattle.planar.specs.Rotation.{pair_by}
+use Rattle.planar.proofs.quarter.Goals as goal
+
+-- a remainder that is none of 0, 1, 2 picks the last pair
+
+last : (n : ℕ) (c s : Float) → (n ≡ 0 → ⊥) → (n ≡ 1 → ⊥) → (n ≡ 2 → ⊥) → record { re = s; im = neg c } ≡ pair_by n c s
+last zero c s p q r = absurd (p refl)
+last (suc zero) c s p q r = absurd (q refl)
+last (suc (suc zero)) c s p q r = absurd (r refl)
+last (suc (suc (suc n))) c s p q r = refl
+
+pub returns-in-0 : goal.returns-in-0
+returns-in-0 c = simp c.in-0.keys1
+
+pub returns-in-1 : goal.returns-in-1
+returns-in-1 c = simp c.in-0.keys2
+
+pub returns-in-2 : goal.returns-in-2
+returns-in-2 c = simp c.in-0.keys3
+
+pub returns-in_default : goal.returns-in_default
+returns-in_default c = last _ _ _ c.in-0.rest.0.0.1 c.in-0.rest.0.1 c.in-0.rest.1

@@ -1,0 +1,13 @@
+-- `write_row`: the floats passed are written. Assumes nothing.
+use Rattle.plugin.proofs.Rows.{Written, written_all, written_more, written_none}
+use lib.ListN.{length}
+use Prim.Native.Nat.{◌-◌, ◌≤◌, ◌<◌}
+use native.Mathlib.Omega.{arith}
+use borrow.Author.Rules.{rules}
+use Rattle.plugin.proofs.write_row.Given as goal
+
+abbrev pub invariant-loop-i : goal.invariant-loop-i
+invariant-loop-i l = (l.i ≤ length l.row) × Written l.row l.initial.bytes l.i l.bytes
+
+abbrev pub decreases-loop-i : goal.decreases-loop-i
+decreases-loop-i l = length l.row - l.i

@@ -1,0 +1,16 @@
+-- `root_rows`: the first i rows are changed, the others are as they were. Assumes nothing.
+use Prim.Native.Nat.{◌-◌, ◌≤◌}
+use mathlib.Core.Path.{◌≡◌, refl, ap, ◌∙◌}
+use native.Mathlib.Omega.{arith}
+use lib.ListN.{length, take, length-set}
+use Rattle.arm.proofs.Shape.{rows_length}
+use Rattle.root_change.specs.Root.{root_mask, root_rows}
+use Rattle.root_change.proofs.Rows.{rows_to, rows_more, rows_all}
+use borrow.Author.Rules.{rules}
+use Rattle.root_change.proofs.root_rows.Given as goal
+
+abbrev pub invariant-loop-i : goal.invariant-loop-i
+invariant-loop-i l = (l.from ≡ root_mask l.arm) × (l.i ≤ 5) × (length l.rows ≡ 5) × (take l.i l.rows ≡ take l.i (rows_to l.arm l.to))
+
+abbrev pub decreases-loop-i : goal.decreases-loop-i
+decreases-loop-i l = 5 - l.i

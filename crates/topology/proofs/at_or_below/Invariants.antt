@@ -1,0 +1,19 @@
+-- `at_or_below`: the marks so far are right, and the rest is as made: false. Assumes nothing.
+use Rattle.lists.proofs.Numbers.{Filled, filled_at, filled_more, filled_none}
+use Rattle.topology.proofs.Branch.{mark_alone, mark_more, marks_full}
+use mathlib.Core.Bool.{false}
+use Rattle.limits.specs.Limits.{link_limit}
+use mathlib.Core.Logic.{⊎_elim}
+use Rattle.topology.specs.Parents.{at_or_below, marks, parent_in}
+use lib.ListN.{length, replicate}
+use Prim.Native.Nat.{min, ◌-◌, ◌≤◌}
+use mathlib.Core.Path.{◌≡◌, sym}
+use native.Mathlib.Omega.{arith}
+use borrow.Author.Rules.{rules}
+use Rattle.topology.proofs.at_or_below.Given as goal
+
+abbrev pub invariant-loop-j : goal.invariant-loop-j
+invariant-loop-j l = (l.n ≡ min (length l.parents) link_limit) × (l.j ≤ l.n) × Filled (at_or_below l.parents l.link) (replicate link_limit false) l.j l.marks
+
+abbrev pub decreases-loop-j : goal.decreases-loop-j
+decreases-loop-j l = l.n - l.j

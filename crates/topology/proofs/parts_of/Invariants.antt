@@ -1,0 +1,18 @@
+-- `parts_of`: the links passed have their parts, and the heads among them are counted. Assumes nothing.
+use mathlib.Core.List.{List}
+use Rattle.topology.specs.Split.{is_head}
+use mathlib.Core.Path.{◌∙◌, sym}
+use Rattle.topology.proofs.Pass.{Passed, passed_none, rank_le, parent_earlier, passed_body, passed_gone, passed_head, passed_all}
+use lib.ListN.{length, replicate}
+use Prim.Native.Nat.{◌-◌, ◌≤◌, ◌<◌, ℕ}
+use mathlib.Core.Logic.{⊎_elim}
+use native.Mathlib.Omega.{arith}
+use Rattle.limits.specs.Limits.{link_limit}
+use borrow.Author.Rules.{rules}
+use Rattle.topology.proofs.parts_of.Given as goal
+
+abbrev pub invariant-loop-j : goal.invariant-loop-j
+invariant-loop-j l = (l.j ≤ length l.parents) × Passed l.parents l.s (replicate link_limit 0) l.j l.of l.count
+
+abbrev pub decreases-loop-j : goal.decreases-loop-j
+decreases-loop-j l = length l.parents - l.j

@@ -1,0 +1,6 @@
+-- `memory_fits`: the definition, test by test. Assumes nothing.
+use borrow.Author.Rules.{rules}
+use Rattle.unit_multibody_joint.proofs.memory_fits.Goals as goal
+
+pub returns : goal.returns
+returns c = cc
