@@ -14,12 +14,12 @@ use Rattle.kinematics.proofs.commit.Goals as goal
 pub loop-j-init : goal.loop-j-init
 loop-j-init c =
     let s = c.args in
-    (omega arith, refl, laid_none (marked s.t1) (blocks_of s.work.now) s.tables.now)
+    (omega arith, refl, laid_none (marked s.marks) (blocks_of s.work.now) s.tables.now)
 
 pub loop-j-preserved : goal.loop-j-preserved
 loop-j-preserved c =
     let turn = c.loop-j in
-    let b = marked c.args.t1 in
+    let b = marked c.args.marks in
     let work = c.args.work.now in
     let t = c.args.tables.now in
     let at = turn.j * block_size in
@@ -34,4 +34,4 @@ pub returns : goal.returns
 returns c =
     let s = c.args in
     let e : c.loop-j.j ≡ s.n = omega arith in
-    c.loop-j.invariant.2 ∙ ap (λ (k : ℕ). blocks_laid (marked s.t1) (blocks_of s.work.now) k s.tables.now) e
+    c.loop-j.invariant.2 ∙ ap (λ (k : ℕ). blocks_laid (marked s.marks) (blocks_of s.work.now) k s.tables.now) e

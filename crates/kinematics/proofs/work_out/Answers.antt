@@ -16,7 +16,7 @@ use Rattle.kinematics.proofs.work_out.Goals as goal
 
 pub loop-j-init : goal.loop-j-init
 loop-j-init c =
-    held_none c.args.t1 c.args.n (marked c.args.t3) c.args.tables.now c.args.work.now c.well-formed.0.1.0.1 c.requires.1.1
+    held_none c.args.given c.args.n (marked c.args.marks) c.args.tables.now c.args.work.now c.well_formed.0.1.0.1 c.requires.1.1
 
 pub copy_parent-requires : goal.copy_parent-requires
 copy_parent-requires c =
@@ -45,15 +45,15 @@ bounds-links-j c = omega (arith, early (turn c))
 pub overflow_add-start : goal.overflow_add-start
 overflow_add-start c =
     let room : c.loop-j.start + 3 ≤ dof_limit =     let now = c.loop-j in
-    start_room c.args.t1 now.j now.start c.args.n c.loop-j-test.true c.requires.0 now.invariant.begins in
-    omega (arith, room, dofs_le (get_or c.args.t1 c.loop-j.j no_link).joint.locked, c.dofs-start.ensures)
+    start_room c.args.given now.j now.start c.args.n c.loop-j-test.true c.requires.0 now.invariant.begins in
+    omega (arith, room, dofs_le (get_or c.args.given c.loop-j.j no_link).joint.locked, c.dofs-start.ensures)
 
 pub loop-j-preserved : goal.loop-j-preserved
 loop-j-preserved c =
     let now = c.loop-j in
-    let ls = c.args.t1 in
+    let ls = c.args.given in
     let n = c.args.n in
-    let b = marked c.args.t3 in
+    let b = marked c.args.marks in
     let t = c.args.tables.now in
     let o = c.args.work.now in
     let then = c.if-marks-j in
@@ -72,5 +72,5 @@ loop-j-preserved c =
 pub returns : goal.returns
 returns c =
     let now = c.loop-j in
-    held_all c.args.t1 c.args.n c.requires.0 c.well_formed.0.1.0.1 (marked c.args.t3) c.args.tables.now c.args.work.now c.requires.1.0
+    held_all c.args.given c.args.n c.requires.0 c.well_formed.0.1.0.1 (marked c.args.marks) c.args.tables.now c.args.work.now c.requires.1.0
     now.j now.start now.work now.links now.fine now.invariant (omega arith)
