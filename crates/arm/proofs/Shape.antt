@@ -13,13 +13,13 @@ use Rattle.arm.specs.contracts.Row as row_type
 
 module _ (a : Arm) {vs : List Val} (p : Is (row the_type) a vs) where
   pub links_length : length a.links ≡ link_limit
-  links_length = sym (length-map a.links _) ∙ p.1.1.1.1.0.1.0.1
+  links_length = p.1.1.1.1.0.1.0.1
 
   pub couplings_length : length a.couplings ≡ coupling_limit
-  couplings_length = sym (length-map a.couplings _) ∙ p.1.1.1.1.1.0.1.0.1
+  couplings_length = p.1.1.1.1.1.0.1.0.1
 
   pub rows_length : length a.rows ≡ 5
-  rows_length = sym (length-map a.rows _) ∙ p.1.1.1.1.1.1.0.1.0.1
+  rows_length = p.1.1.1.1.1.1.0.1.0.1
 
 pub row-length : (r : Row) {vs : List Val} → Is (row row_type.the_type) r vs → length r.entries ≡ dof_limit
-row-length r p = sym (length-map r.entries _) ∙ p.1.1.0.1.0.1
+row-length r p = p.1.1.0.1.0.1

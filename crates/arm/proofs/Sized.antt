@@ -20,7 +20,7 @@ use Rattle.arm.proofs.Shape.{links_length, couplings_length, rows_length, row-le
 
 -- the rows are owned one by one
 each_row : (rows : List Row) (us : List Val)
-    → shadow (each (row_type.the_field).row.Denot (row_type.the_field).row.own_val (map (row_type.the_field).into rows) us)
+    → shadow (each (row_type.the_row).Denot (row_type.the_row).own_val rows us)
     → (k : ℕ) → k < length rows → length (get_or (map entries_of rows) k []) ≡ dof_limit
 each_row [] us s k h = absurd (omega arith)
 each_row (r ∷ rows) [] s k h = absurd s

@@ -101,6 +101,12 @@ module _ (n : ℕ) (a : List Float) (s : List ℕ) (b x : List Float) where
 
   -- r is the code's test of the factors
   module _ (r : Bool) (er : r ≡ leb (n * n) (length a)) where
+    pub substitute_room : (r && leb n (length s) && leb n (length b) && leb n (length x)) ≡ true
+        → (n * n ≤ length a) × (n ≤ length s) × (n ≤ length b) × (n ≤ length x)
+    substitute_room h =
+        let w = four r (leb n (length s)) (leb n (length b)) (leb n (length x)) h in
+        (leb-true (n * n) (length a) (sym er ∙ w.0), leb-true n (length s) w.1, leb-true n (length b) w.2, leb-true n (length x) w.3)
+
     pub substitute_short : (r && leb n (length s) && leb n (length b) && leb n (length x)) ≡ false → answer 1 x ≡ substitute_of n a s b x
     substitute_short h = in_short n room o x (rw (← er) h)
 
@@ -121,6 +127,11 @@ module _ (n : ℕ) (a b x : List Float) where
 
   -- r is the code's test of the matrix
   module _ (r : Bool) (er : r ≡ leb (n * n) (length a)) where
+    pub any_room : (r && leb n (length b) && leb n (length x)) ≡ true → (n * n ≤ length a) × (n ≤ length b) × (n ≤ length x)
+    any_room h =
+        let w = three r (leb n (length b)) (leb n (length x)) h in
+        (leb-true (n * n) (length a) (sym er ∙ w.0), leb-true n (length b) w.1, leb-true n (length x) w.2)
+
     pub any_short : (r && leb n (length b) && leb n (length x)) ≡ false → answer 1 x ≡ solve_any n a b x
     any_short h = in_short n enough found x (rw (← er) h)
 

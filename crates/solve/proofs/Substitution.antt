@@ -79,6 +79,12 @@ drop-take (suc m) (suc k) (x ∷ xs) =
 pub row_end : {i n : ℕ} → 0 < i → i ≤ n → (n ≤ i * n) × (i * n ≤ n * n)
 row_end {i} {n} h g = (omega (arith, mul-le-mul_right n h), mul-le-mul_right n g)
 
+-- so in the room of the factors
+pub row_within : {i n end room : ℕ} → 0 < i → i ≤ n → end ≡ i * n → room ≡ n * n → (n ≤ end) × (end ≤ room)
+row_within h g e f =
+    let w = row_end h g in
+    (omega arith, omega arith)
+
 -- the row before it ends n earlier
 pub row_before : (i n end : ℕ) → 0 < i → end ≡ i * n → end - n ≡ (i - 1) * n
 row_before i n end h e =

@@ -7,5 +7,5 @@ use Rattle.addition.proofs.with_entries.Goals as goal
 
 pub returns : goal.returns
 returns c =
-    entries_set_lem c.args.row c.args.start c.args.n c.args.t4 _
+    entries_set_lem c.args.row c.args.start c.args.n c.args.values _
     (omega (arith, row-length c.args.row c.well_formed.0)) (omega arith) c.copy_part.ensures

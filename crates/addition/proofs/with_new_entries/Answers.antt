@@ -13,7 +13,7 @@ use borrow.Author.Rules.{rules}
 use Rattle.addition.proofs.with_new_entries.Goals as goal
 
 pub loop-i-init : goal.loop-i-init
-loop-i-init c = (omega arith, c.well-formed.0.1.0.1, refl)
+loop-i-init c = (omega arith, c.well_formed.0.1.0.1, refl)
 
 pub with_entries-requires : goal.with_entries-requires
 with_entries-requires c =
@@ -21,7 +21,7 @@ with_entries-requires c =
 
 pub loop-i-preserved : goal.loop-i-preserved
 loop-i-preserved c =
-    let given = c.args.t1 in
+    let given = c.args.given in
     let k = c.loop-i in
     let f = entries_set c.args.start c.dofs-n.result zeros in
     let d : Row = record { entries = [] } in
@@ -40,5 +40,5 @@ with_entries-requires-2 c =
 pub returns : goal.returns
 returns c =
     let k = c.loop-i in
-    rows_with_lem c.args.t1 c.args.mask _ _ _ k.i k.rows _ _ _ c.well_formed.0.1.0.1 k.invariant.1 c.dofs-n.ensures
+    rows_with_lem c.args.given c.args.mask _ _ _ k.i k.rows _ _ _ c.well_formed.0.1.0.1 k.invariant.1 c.dofs-n.ensures
     c.row_number-damping.ensures c.loop-i-test.false k.invariant.2 c.damping_of.ensures c.with_entries-2.ensures

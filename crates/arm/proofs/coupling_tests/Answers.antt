@@ -31,7 +31,7 @@ pub loop-i-preserved : goal.loop-i-preserved
 loop-i-preserved c =
     let a = c.args.arm in
     let k = c.loop-i in
-    let w = couplings_length a c.well-formed.0 in
+    let w = couplings_length a c.well_formed.0 in
     let fits : c.fewer-n.result ≤ length a.couplings = omega arith in (
       k.invariant.0,
       omega arith,
@@ -44,4 +44,4 @@ pub returns : goal.returns
 returns c =
     let a = c.args.arm in
     let k = c.loop-i in
-    ended a (couplings_length a c.well-formed.0) _ k.i k.links k.axes k.floats k.invariant.0 (omega arith) k.invariant.2 k.invariant.3 k.invariant.4
+    ended a (couplings_length a c.well_formed.0) _ k.i k.links k.axes k.floats k.invariant.0 (omega arith) k.invariant.2 k.invariant.3 k.invariant.4

@@ -15,4 +15,4 @@ pub returns : goal.returns
 unfolding dof_at mask_at start_at dof_among
 returns c =
     let a = c.args.arm in
-    c.dof_among.ensures ∙ ap (λ (ms : List ℕ). dof_among ms c.args.link c.args.axis) (ap (take (live_links a)) c.masks_of.ensures ∙ masks_front a (links_length a c.well-formed.0))
+    c.dof_among.ensures ∙ ap (λ (ms : List ℕ). dof_among ms c.args.link c.args.axis) (ap (take (live_links a)) c.masks_of.ensures ∙ masks_front a (links_length a c.well_formed.0))

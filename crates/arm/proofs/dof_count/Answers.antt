@@ -8,4 +8,4 @@ use Rattle.arm.proofs.Live.{start_whole}
 use Rattle.arm.proofs.dof_count.Goals as goal
 
 pub returns : goal.returns
-returns c = c.start_of.ensures ∙ start_whole c.args.arm (links_length c.args.arm c.well-formed.0) link_limit (omega arith)
+returns c = c.start_of.ensures ∙ start_whole c.args.arm (links_length c.args.arm c.well_formed.0) link_limit (omega arith)

@@ -7,7 +7,7 @@ use Rattle.arm.proofs.Shape.{row-length}
 use Rattle.arm.proofs.is_finite_row.Goals as goal
 
 pub slice_bounds-all_finite-end : goal.slice_bounds-all_finite-end
-slice_bounds-all_finite-end c = omega (arith, row-length c.args.row c.well-formed.0)
+slice_bounds-all_finite-end c = omega (arith, row-length c.args.row c.well_formed.0)
 
 pub returns : goal.returns
 unfolding row_finite

@@ -20,6 +20,7 @@ use mathlib.Core.Path.{◌≡◌, refl, ◌∙◌, ap}
 use native.Mathlib.Omega.{arith}
 use borrow.Author.Rules.{rules}
 use Rattle.arm.proofs.link_tests.Goals as goal
+use Rattle.arm.proofs.link_tests.Goals.{then-floats, else-floats}
 
 ended : (a : Arm) → length a.links ≡ link_limit → (n i : ℕ) (ts ps ls : List ℕ) (m f g : Bool) → n ≡ live_links a → i ≡ n
     → ts ≡ padded link_limit (take i (map tag_of a.links)) → ps ≡ padded link_limit (take i (map parent_of a.links))
@@ -67,17 +68,17 @@ pub loop-i-preserved : goal.loop-i-preserved
 loop-i-preserved c =
     let a = c.args.arm in
     let k = c.loop-i in
-    let w = links_length a c.well-formed.0 in
+    let w = links_length a c.well_formed.0 in
     let fits : c.live_links-n.result ≤ length a.links = omega arith in (
       omega arith,
       filled a w tag_of k.tags k.i _ (omega arith) k.invariant.1,
       filled a w parent_of k.parents k.i _ (omega arith) k.invariant.2,
       filled a w locked_of k.locked k.i _ (omega arith) k.invariant.3,
       front_more link_masks_fit a.links _ fits k.i k.masks _ _ (omega arith) c.masks_fit-masks.ensures k.invariant.4,
-      ⊎_elim
-          (λ q. front_next link_finite a.links _ fits k.i k.floats _ _ (omega arith) q.0.taken (q.2 ∙ q.1.ensures) k.invariant.5)
-          (λ q. tested_failed link_finite _ k.i (k.i + 1) k.floats _ q.0.left q.1 k.invariant.5)
-          c.if-floats.branch,
+      elim c.if-floats.branch [
+        | then-floats w ↦ front_next link_finite a.links _ fits k.i k.floats _ _ (omega arith) w.if-floats.true (w.floats-is ∙ w.is_finite_link-floats.ensures) k.invariant.5
+        | else-floats w ↦ tested_failed link_finite _ k.i (k.i + 1) k.floats _ w.if-floats.false w.floats-is k.invariant.5
+      ],
       front_more link_angle_fits a.links _ fits k.i k.angles _ _ (omega arith) c.angle_fits-angles.ensures k.invariant.6,
     )
 
@@ -85,4 +86,4 @@ pub returns : goal.returns
 returns c =
     let a = c.args.arm in
     let k = c.loop-i in
-    ended a (links_length a c.well-formed.0) _ k.i k.tags k.parents k.locked k.masks k.floats k.angles c.live_links-n.ensures (omega arith) k.invariant.1 k.invariant.2 k.invariant.3 k.invariant.4 k.invariant.5 k.invariant.6
+    ended a (links_length a c.well_formed.0) _ k.i k.tags k.parents k.locked k.masks k.floats k.angles c.live_links-n.ensures (omega arith) k.invariant.1 k.invariant.2 k.invariant.3 k.invariant.4 k.invariant.5 k.invariant.6

@@ -13,4 +13,4 @@ pub returns : goal.returns
 unfolding mask_at
 returns c =
     let a = c.args.arm in
-    c.mask_among.ensures ∙ ap (λ (ms : List ℕ). get_or ms c.args.link 7) (ap (take (live_links a)) c.masks_of.ensures ∙ masks_front a (links_length a c.well-formed.0))
+    c.mask_among.ensures ∙ ap (λ (ms : List ℕ). get_or ms c.args.link 7) (ap (take (live_links a)) c.masks_of.ensures ∙ masks_front a (links_length a c.well_formed.0))

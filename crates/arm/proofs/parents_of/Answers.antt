@@ -15,16 +15,16 @@ loop-i-init c = (omega arith, refl, refl)
 
 pub loop-i-preserved : goal.loop-i-preserved
 loop-i-preserved c =
-    let a = c.args.t1 in
+    let a = c.args.arm in
     let k = c.loop-i in
-    let n : length a.links ≡ link_limit = links_length a c.well-formed.0 in
+    let n : length a.links ≡ link_limit = links_length a c.well_formed.0 in
     let m : length (map parent_of a.links) ≡ length a.links = length-map a.links parent_of in
     (omega arith, simp length-set k.invariant.1, filled_more (map parent_of a.links) k.parents k.i 0 _ (omega arith) (omega arith) k.invariant.2 (sym (map_at parent_of a.links k.i _ 0 (omega arith))))
 
 pub returns : goal.returns
 returns c =
-    let a = c.args.t1 in
+    let a = c.args.arm in
     let k = c.loop-i in
-    let n : length a.links ≡ link_limit = links_length a c.well-formed.0 in
+    let n : length a.links ≡ link_limit = links_length a c.well_formed.0 in
     let m : length (map parent_of a.links) ≡ length a.links = length-map a.links parent_of in
     filled_all (map parent_of a.links) k.parents k.i (omega arith) (omega arith) k.invariant.2

@@ -14,4 +14,4 @@ pub returns : goal.returns
 unfolding start_at
 returns c =
     let a = c.args.arm in
-    c.start_among.ensures ∙ ap (λ (ms : List ℕ). start_of ms c.args.link) (ap (take (live_links a)) c.masks_of.ensures ∙ masks_front a (links_length a c.well-formed.0))
+    c.start_among.ensures ∙ ap (λ (ms : List ℕ). start_of ms c.args.link) (ap (take (live_links a)) c.masks_of.ensures ∙ masks_front a (links_length a c.well_formed.0))

@@ -19,32 +19,32 @@ returns-then-refusal-ne0 c = edited_some _ _ _ _ c.spring_refusal-refusal.ensure
 
 pub offset_bounds-arm-at : goal.offset_bounds-arm-at
 offset_bounds-arm-at c =
-    let unrefused : spring_refusal c.args.t1 c.args.link c.args.axis c.args.spring ≡ 0 = sym c.spring_refusal-refusal.ensures ∙ c.if-refusal-ne0.false in
-    let in_array : c.args.link < live_links c.args.t1 = let arm = c.args.t1 in
+    let unrefused : spring_refusal c.args.arm c.args.link c.args.axis c.args.spring ≡ 0 = sym c.spring_refusal-refusal.ensures ∙ c.if-refusal-ne0.false in
+    let in_array : c.args.link < live_links c.args.arm = let arm = c.args.arm in
     let link = c.args.link in
     live arm link (set_spring_there arm link c.args.axis c.args.spring unrefused) in
     omega (arith, in_array)
 
 pub bounds-arm-at : goal.bounds-arm-at
 bounds-arm-at c =
-    let unrefused : spring_refusal c.args.t1 c.args.link c.args.axis c.args.spring ≡ 0 = sym c.spring_refusal-refusal.ensures ∙ c.if-refusal-ne0.false in
-    let in_array : c.args.link < live_links c.args.t1 = let arm = c.args.t1 in
+    let unrefused : spring_refusal c.args.arm c.args.link c.args.axis c.args.spring ≡ 0 = sym c.spring_refusal-refusal.ensures ∙ c.if-refusal-ne0.false in
+    let in_array : c.args.link < live_links c.args.arm = let arm = c.args.arm in
     let link = c.args.link in
     live arm link (set_spring_there arm link c.args.axis c.args.spring unrefused) in
     omega (arith, in_array)
 
 pub offset_bounds-new-at : goal.offset_bounds-new-at
 offset_bounds-new-at c =
-    let unrefused : spring_refusal c.args.t1 c.args.link c.args.axis c.args.spring ≡ 0 = sym c.spring_refusal-refusal.ensures ∙ c.if-refusal-ne0.false in
-    let in_array : c.args.link < live_links c.args.t1 = let arm = c.args.t1 in
+    let unrefused : spring_refusal c.args.arm c.args.link c.args.axis c.args.spring ≡ 0 = sym c.spring_refusal-refusal.ensures ∙ c.if-refusal-ne0.false in
+    let in_array : c.args.link < live_links c.args.arm = let arm = c.args.arm in
     let link = c.args.link in
     live arm link (set_spring_there arm link c.args.axis c.args.spring unrefused) in
     omega (arith, in_array)
 
 pub bounds-new-at : goal.bounds-new-at
 bounds-new-at c =
-    let unrefused : spring_refusal c.args.t1 c.args.link c.args.axis c.args.spring ≡ 0 = sym c.spring_refusal-refusal.ensures ∙ c.if-refusal-ne0.false in
-    let in_array : c.args.link < live_links c.args.t1 = let arm = c.args.t1 in
+    let unrefused : spring_refusal c.args.arm c.args.link c.args.axis c.args.spring ≡ 0 = sym c.spring_refusal-refusal.ensures ∙ c.if-refusal-ne0.false in
+    let in_array : c.args.link < live_links c.args.arm = let arm = c.args.arm in
     let link = c.args.link in
     live arm link (set_spring_there arm link c.args.axis c.args.spring unrefused) in
     omega (arith, in_array)
@@ -54,4 +54,4 @@ unfolding arm_spring_set
 returns c =
     let given = c.args in
     edited_none _ _ _ _ _ c.spring_refusal-refusal.ensures c.if-refusal-ne0.false
-    (spring_stored given.t1 given.link given.axis given.spring _ _ c.with_spring.ensures)
+    (spring_stored given.arm given.link given.axis given.spring _ _ c.with_spring.ensures)

@@ -20,25 +20,25 @@ returns-then-refusal-ne0 c = axes_some _ _ _ c.mul_refusal-refusal.ensures c.if-
 
 pub offset_bounds-arm-at : goal.offset_bounds-arm-at
 offset_bounds-arm-at c =
-    let in_array : c.args.link < live_links c.args.t1 = let given = c.args in
-    live given.t1 given.link
-    (mul-there given.t1 given.link given.accelerations.now (sym c.mul_refusal-refusal.ensures ∙ c.if-refusal-ne0.false)) in
+    let in_array : c.args.link < live_links c.args.arm = let given = c.args in
+    live given.arm given.link
+    (mul-there given.arm given.link given.accelerations.now (sym c.mul_refusal-refusal.ensures ∙ c.if-refusal-ne0.false)) in
     omega (arith, in_array)
 
 pub bounds-arm-at : goal.bounds-arm-at
 bounds-arm-at c =
-    let in_array : c.args.link < live_links c.args.t1 = let given = c.args in
-    live given.t1 given.link
-    (mul-there given.t1 given.link given.accelerations.now (sym c.mul_refusal-refusal.ensures ∙ c.if-refusal-ne0.false)) in
+    let in_array : c.args.link < live_links c.args.arm = let given = c.args in
+    live given.arm given.link
+    (mul-there given.arm given.link given.accelerations.now (sym c.mul_refusal-refusal.ensures ∙ c.if-refusal-ne0.false)) in
     omega (arith, in_array)
 
 pub returns : goal.returns
 unfolding mul_answer
 returns c =
-    let in_array : c.args.link < live_links c.args.t1 = let given = c.args in
-    live given.t1 given.link
-    (mul-there given.t1 given.link given.accelerations.now (sym c.mul_refusal-refusal.ensures ∙ c.if-refusal-ne0.false)) in
+    let in_array : c.args.link < live_links c.args.arm = let given = c.args in
+    live given.arm given.link
+    (mul-there given.arm given.link given.accelerations.now (sym c.mul_refusal-refusal.ensures ∙ c.if-refusal-ne0.false)) in
     let given = c.args in
-    let whole = links_length given.t1 c.well-formed.0 in
+    let whole = links_length given.arm c.well_formed.0 in
     axes_none _ _ _ _ c.mul_refusal-refusal.ensures c.if-refusal-ne0.false
-    (c.jacobian_mul_coordinates.ensures ∙ of_link_lem (axes_in given.accelerations.now) zeros given.t1 given.link _ whole in_array)
+    (c.jacobian_mul_coordinates.ensures ∙ of_link_lem (axes_in given.accelerations.now) zeros given.arm given.link _ whole in_array)

@@ -38,7 +38,7 @@ pub overflow_add-end : goal.overflow_add-end
 overflow_add-end c =
     let within : Within c.args.arm c.args.link (length c.args.velocities.now) (length c.args.accelerations.now) = let given = c.args in
     view_within given.arm given.link (length given.velocities.now) (length given.accelerations.now)
-    (links_length given.arm c.well-formed.0) (sym c.view_refusal-number.ensures ∙ c.if-number-ne0.false) in
+    (links_length given.arm c.well_formed.0) (sym c.view_refusal-number.ensures ∙ c.if-number-ne0.false) in
     let ends : c.start_of-start.result + c.dofs.result
     ≡ start_at c.args.arm c.args.link + dofs_of (mask_at c.args.arm c.args.link) = let starts = c.start_of-start in
     let mask = c.mask_at in
@@ -49,7 +49,7 @@ pub offset_bounds-velocities-start : goal.offset_bounds-velocities-start
 offset_bounds-velocities-start c =
     let within : Within c.args.arm c.args.link (length c.args.velocities.now) (length c.args.accelerations.now) = let given = c.args in
     view_within given.arm given.link (length given.velocities.now) (length given.accelerations.now)
-    (links_length given.arm c.well-formed.0) (sym c.view_refusal-number.ensures ∙ c.if-number-ne0.false) in
+    (links_length given.arm c.well_formed.0) (sym c.view_refusal-number.ensures ∙ c.if-number-ne0.false) in
     let ends : c.start_of-start.result + c.dofs.result
     ≡ start_at c.args.arm c.args.link + dofs_of (mask_at c.args.arm c.args.link) = let starts = c.start_of-start in
     let mask = c.mask_at in
@@ -60,7 +60,7 @@ pub slice_bounds-result-end-in-Velocities : goal.slice_bounds-result-end-in-Velo
 slice_bounds-result-end-in-Velocities c =
     let within : Within c.args.arm c.args.link (length c.args.velocities.now) (length c.args.accelerations.now) = let given = c.args in
     view_within given.arm given.link (length given.velocities.now) (length given.accelerations.now)
-    (links_length given.arm c.well-formed.0) (sym c.view_refusal-number.ensures ∙ c.if-number-ne0.false) in
+    (links_length given.arm c.well_formed.0) (sym c.view_refusal-number.ensures ∙ c.if-number-ne0.false) in
     let ends : c.start_of-start.result + c.dofs.result
     ≡ start_at c.args.arm c.args.link + dofs_of (mask_at c.args.arm c.args.link) = let starts = c.start_of-start in
     let mask = c.mask_at in
@@ -71,7 +71,7 @@ pub offset_bounds-accelerations-start : goal.offset_bounds-accelerations-start
 offset_bounds-accelerations-start c =
     let within : Within c.args.arm c.args.link (length c.args.velocities.now) (length c.args.accelerations.now) = let given = c.args in
     view_within given.arm given.link (length given.velocities.now) (length given.accelerations.now)
-    (links_length given.arm c.well-formed.0) (sym c.view_refusal-number.ensures ∙ c.if-number-ne0.false) in
+    (links_length given.arm c.well_formed.0) (sym c.view_refusal-number.ensures ∙ c.if-number-ne0.false) in
     let ends : c.start_of-start.result + c.dofs.result
     ≡ start_at c.args.arm c.args.link + dofs_of (mask_at c.args.arm c.args.link) = let starts = c.start_of-start in
     let mask = c.mask_at in
@@ -82,7 +82,7 @@ pub slice_bounds-result-end-in-Accelerations : goal.slice_bounds-result-end-in-A
 slice_bounds-result-end-in-Accelerations c =
     let within : Within c.args.arm c.args.link (length c.args.velocities.now) (length c.args.accelerations.now) = let given = c.args in
     view_within given.arm given.link (length given.velocities.now) (length given.accelerations.now)
-    (links_length given.arm c.well-formed.0) (sym c.view_refusal-number.ensures ∙ c.if-number-ne0.false) in
+    (links_length given.arm c.well_formed.0) (sym c.view_refusal-number.ensures ∙ c.if-number-ne0.false) in
     let ends : c.start_of-start.result + c.dofs.result
     ≡ start_at c.args.arm c.args.link + dofs_of (mask_at c.args.arm c.args.link) = let starts = c.start_of-start in
     let mask = c.mask_at in

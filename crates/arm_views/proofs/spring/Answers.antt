@@ -19,25 +19,25 @@ returns-then-refusal-ne0 c = spring_some _ _ _ c.spring_refusal-refusal.ensures 
 
 pub offset_bounds-arm-at : goal.offset_bounds-arm-at
 offset_bounds-arm-at c =
-    let unrefused : spring_refusal c.args.t1 c.args.link c.args.axis ≡ 0 = sym c.spring_refusal-refusal.ensures ∙ c.if-refusal-ne0.false in
-    let in_array : c.args.link < live_links c.args.t1 = let given = c.args in
-    live given.t1 given.link (spring_there given.t1 given.link given.axis unrefused) in
+    let unrefused : spring_refusal c.args.arm c.args.link c.args.axis ≡ 0 = sym c.spring_refusal-refusal.ensures ∙ c.if-refusal-ne0.false in
+    let in_array : c.args.link < live_links c.args.arm = let given = c.args in
+    live given.arm given.link (spring_there given.arm given.link given.axis unrefused) in
     omega (arith, in_array)
 
 pub bounds-arm-at : goal.bounds-arm-at
 bounds-arm-at c =
-    let unrefused : spring_refusal c.args.t1 c.args.link c.args.axis ≡ 0 = sym c.spring_refusal-refusal.ensures ∙ c.if-refusal-ne0.false in
-    let in_array : c.args.link < live_links c.args.t1 = let given = c.args in
-    live given.t1 given.link (spring_there given.t1 given.link given.axis unrefused) in
+    let unrefused : spring_refusal c.args.arm c.args.link c.args.axis ≡ 0 = sym c.spring_refusal-refusal.ensures ∙ c.if-refusal-ne0.false in
+    let in_array : c.args.link < live_links c.args.arm = let given = c.args in
+    live given.arm given.link (spring_there given.arm given.link given.axis unrefused) in
     omega (arith, in_array)
 
 pub returns : goal.returns
 unfolding spring_answer
 returns c =
-    let unrefused : spring_refusal c.args.t1 c.args.link c.args.axis ≡ 0 = sym c.spring_refusal-refusal.ensures ∙ c.if-refusal-ne0.false in
-    let in_array : c.args.link < live_links c.args.t1 = let given = c.args in
-    live given.t1 given.link (spring_there given.t1 given.link given.axis unrefused) in
+    let unrefused : spring_refusal c.args.arm c.args.link c.args.axis ≡ 0 = sym c.spring_refusal-refusal.ensures ∙ c.if-refusal-ne0.false in
+    let in_array : c.args.link < live_links c.args.arm = let given = c.args in
+    live given.arm given.link (spring_there given.arm given.link given.axis unrefused) in
     let given = c.args in
-    let whole = links_length given.t1 c.well-formed.0 in
+    let whole = links_length given.arm c.well_formed.0 in
     spring_none _ _ _ _ c.spring_refusal-refusal.ensures c.if-refusal-ne0.false
-    (c.spring_of.ensures ∙ of_link_lem (spring_in given.axis) no_spring given.t1 given.link _ whole in_array)
+    (c.spring_of.ensures ∙ of_link_lem (spring_in given.axis) no_spring given.arm given.link _ whole in_array)

@@ -1,9 +1,7 @@
-use lib.ListN.{length, length-set}
-use Prim.Native.Nat.{◌-◌, ◌≤◌}
-use mathlib.Core.Path.{◌∙◌, ◌≡◌}
+use lib.ListN.{length-set}
+use mathlib.Core.Path.{◌∙◌}
 use native.Mathlib.Omega.{arith}
-use borrow.Author.Rules.{rules}
-use Rattle.lists.proofs.Filled.{filled, filled_all, filled_more}
+use Rattle.lists.proofs.Filled.{filled_all, filled_more}
 use Rattle.elimination.proofs.clear_swaps.Goals as goal
 
 pub loop-i-preserved : goal.loop-i-preserved

@@ -1,10 +1,8 @@
 -- `clear_swaps`: the first i numbers are 0, the rest is as it was.
-use lib.ListN.{length, length-set}
+use lib.ListN.{length}
 use Prim.Native.Nat.{◌-◌, ◌≤◌}
-use mathlib.Core.Path.{◌∙◌, ◌≡◌}
-use native.Mathlib.Omega.{arith}
-use borrow.Author.Rules.{rules}
-use Rattle.lists.proofs.Filled.{filled, filled_all, filled_more}
+use mathlib.Core.Path.{◌≡◌}
+use Rattle.lists.proofs.Filled.{filled}
 use Rattle.elimination.proofs.clear_swaps.Given as goal
 
 abbrev pub invariant-loop-i : goal.invariant-loop-i

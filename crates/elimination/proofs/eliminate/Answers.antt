@@ -1,12 +1,12 @@
-use Prim.Native.Nat.{◌*◌, ◌+◌, ◌-◌, ◌<◌, ◌≤◌, ℕ}
+use Prim.Native.Nat.{◌*◌, ◌+◌, ◌-◌, ◌<◌, ℕ}
 use mathlib.Core.List.{List, []}
-use mathlib.Core.Path.{◌∙◌, ◌≡◌, ap, sym}
+use mathlib.Core.Path.{◌∙◌, ap, sym}
 use native.Mathlib.Nat.{sub-zero}
 use native.Mathlib.Omega.{arith}
 use borrow.Author.Rules.{rules}
 use lib.ListN.{length, length-set, take}
 use lib.Seq.{take_all}
-use Rattle.elimination.specs.Elimination.{columns, factored, factors}
+use Rattle.elimination.specs.Elimination.{columns, factors}
 use Rattle.elimination.proofs.Rows.{at_inside, inside}
 use Rattle.elimination.proofs.Columns.{columns_end, columns_more, columns_zero, swaps_more, tested}
 use Rattle.elimination.proofs.eliminate.Goals as goal
@@ -54,9 +54,9 @@ loop-k-preserved c =
     let e = pivot.ensures in
     let more = columns_more n k l.rows (take k s) p c.loop-k-test.true e.0 t c.if-rows-at.false made.ensures e.1 e.2 l.invariant.1 in (
       omega arith,
-      c.rows-1.given ∙ l.invariant.1,
+      c.eliminate_column.auto.rows ∙ l.invariant.1,
       length-set s k p ∙ l.invariant.2,
-      c.pivot-1.given ∙ l.invariant.3,
+      c.eliminate_column.auto.pivot ∙ l.invariant.3,
       l.invariant.4 ∙ more ∙ ap (columns n (n - (k + 1)) (k + 1) t) (swaps_more k p s (omega arith)),
     )
 
@@ -66,4 +66,4 @@ returns c =
     let n = c.args.n in
     l.invariant.4
     ∙ columns_end n l.k l.rows (take l.k l.swaps) c.loop-k-test.false
-    ∙ ap (λ (s : List ℕ). tested n l.rows (factors 0 l.rows c)) (take_all l.k l.swaps (omega arith))
+    ∙ ap (λ (s : List ℕ). tested n l.rows (factors 0 l.rows s)) (take_all l.k l.swaps (omega arith))

@@ -1,15 +1,8 @@
 -- `eliminate`: the columns done, with those that are left, give the factors; at the end, and at a zero pivot, only the test of the rows is left.
-use Prim.Native.Nat.{◌*◌, ◌+◌, ◌-◌, ◌<◌, ◌≤◌, ℕ}
-use mathlib.Core.List.{List, []}
-use mathlib.Core.Path.{◌∙◌, ◌≡◌, ap, sym}
-use native.Mathlib.Nat.{sub-zero}
-use native.Mathlib.Omega.{arith}
-use borrow.Author.Rules.{rules}
-use lib.ListN.{length, length-set, take}
-use lib.Seq.{take_all}
-use Rattle.elimination.specs.Elimination.{columns, factored, factors}
-use Rattle.elimination.proofs.Rows.{at_inside, inside}
-use Rattle.elimination.proofs.Columns.{columns_end, columns_more, columns_zero, swaps_more, tested}
+use Prim.Native.Nat.{◌*◌, ◌-◌, ◌≤◌}
+use mathlib.Core.Path.{◌≡◌}
+use lib.ListN.{length, take}
+use Rattle.elimination.specs.Elimination.{columns, factored}
 use Rattle.elimination.proofs.eliminate.Given as goal
 
 abbrev pub invariant-loop-k : goal.invariant-loop-k

@@ -1,14 +1,14 @@
 use Rattle.elimination.proofs.Rows.{at_inside, inside, next}
 use Rattle.elimination.proofs.Pivot.{greatest_end, greatest_more}
-use Rattle.elimination.specs.Elimination.{absolute, entry, greatest, pivot_row}
+use Rattle.elimination.specs.Elimination.{absolute, entry}
 use lib.Ieee.{nan}
 use lib.ListN.{get_or, length}
-use Prim.Native.Nat.{◌*◌, ◌+◌, ◌-◌, ◌<◌, ◌≤◌, ℕ}
-use mathlib.Core.Logic.{⊎_elim}
+use Prim.Native.Nat.{◌*◌, ◌+◌, ◌<◌, ℕ}
 use mathlib.Core.Bool.{false, true}
 use mathlib.Core.Path.{◌∙◌, ◌≡◌, ap, refl, sym}
 use native.Mathlib.Omega.{arith}
 use borrow.Author.Rules.{rules}
+use Rattle.elimination.proofs.pivot_row.Goals.{then-greatest-value, else-greatest-value}
 use Rattle.elimination.proofs.pivot_row.Goals as goal
 
 pub overflow_mul-at : goal.overflow_mul-at
@@ -50,26 +50,26 @@ loop-i-preserved c =
     let here : value.result ≡ absolute (entry n i k a) = value.ensures ∙ ap (λ (j : ℕ). absolute (get_or a j nan)) c.loop-i.invariant.4 in
     let more = greatest_more n k a i c.loop-i.p c.loop-i-test.true c.loop-i.greatest value.result c.loop-i.invariant.5 here in
     let at = next i n in
-    ⊎_elim
-    (λ w. (
-      omega arith,
-      omega arith,
-      omega arith,
-      omega arith,
-      omega arith,
-      w.2 ∙ here ∙ ap (λ (j : ℕ). absolute (entry n j k a)) (sym w.1),
-      c.loop-i.invariant.6 ∙ more true c.if-greatest-value.p w.0.taken w.1,
-    ))
-    (λ w. (
-      omega arith,
-      omega arith,
-      omega arith,
-      omega arith,
-      omega arith,
-      w.2 ∙ c.loop-i.invariant.5 ∙ ap (λ (j : ℕ). absolute (entry n j k a)) (sym w.1),
-      c.loop-i.invariant.6 ∙ more false c.if-greatest-value.p w.0.left w.1,
-    ))
-    c.if-greatest-value.branch
+    elim c.if-greatest-value.branch [
+      | then-greatest-value w ↦ (
+        omega arith,
+        omega arith,
+        omega arith,
+        omega arith,
+        omega arith,
+        w.greatest-is ∙ here ∙ ap (λ (j : ℕ). absolute (entry n j k a)) (sym w.p-is),
+        c.loop-i.invariant.6 ∙ more true c.if-greatest-value.p w.if-greatest-value.true w.p-is,
+      )
+      | else-greatest-value w ↦ (
+        omega arith,
+        omega arith,
+        omega arith,
+        omega arith,
+        omega arith,
+        w.greatest-is ∙ c.loop-i.invariant.5 ∙ ap (λ (j : ℕ). absolute (entry n j k a)) (sym w.p-is),
+        c.loop-i.invariant.6 ∙ more false c.if-greatest-value.p w.if-greatest-value.false w.p-is,
+      )
+    ]
 
 pub returns : goal.returns
 returns c =

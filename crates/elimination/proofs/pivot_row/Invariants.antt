@@ -1,15 +1,7 @@
 -- `pivot_row`: the row of greatest value so far, with the rows that are left, gives the pivot's row; `at` is column k of the row before i.
-use Rattle.elimination.proofs.Rows.{at_inside, inside, next}
-use Rattle.elimination.proofs.Pivot.{greatest_end, greatest_more}
 use Rattle.elimination.specs.Elimination.{absolute, entry, greatest, pivot_row}
-use lib.Ieee.{nan}
-use lib.ListN.{get_or, length}
-use Prim.Native.Nat.{◌*◌, ◌+◌, ◌-◌, ◌<◌, ◌≤◌, ℕ}
-use mathlib.Core.Logic.{⊎_elim}
-use mathlib.Core.Bool.{false, true}
-use mathlib.Core.Path.{◌∙◌, ◌≡◌, ap, refl, sym}
-use native.Mathlib.Omega.{arith}
-use borrow.Author.Rules.{rules}
+use Prim.Native.Nat.{◌*◌, ◌+◌, ◌-◌, ◌<◌, ◌≤◌}
+use mathlib.Core.Path.{◌≡◌}
 use Rattle.elimination.proofs.pivot_row.Given as goal
 
 abbrev pub invariant-loop-i : goal.invariant-loop-i

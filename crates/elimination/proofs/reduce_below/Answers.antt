@@ -1,9 +1,8 @@
-use Prim.Native.Nat.{◌*◌, ◌+◌, ◌-◌, ◌<◌, ◌≤◌}
-use mathlib.Core.Path.{◌∙◌, ◌≡◌, sym}
+use Prim.Native.Nat.{◌<◌}
+use mathlib.Core.Path.{◌∙◌, sym}
 use native.Mathlib.Omega.{arith}
 use borrow.Author.Rules.{rules}
 use lib.ListN.{length}
-use Rattle.elimination.specs.Elimination.{reduced}
 use Rattle.elimination.proofs.Rows.{inside, next}
 use Rattle.elimination.proofs.Reduced.{lent_length, reduced_end, reduced_more}
 use Rattle.elimination.proofs.reduce_below.Goals as goal
@@ -38,7 +37,7 @@ loop-i-preserved c =
     let row = c.reduce_row in
     let l = c.loop-i in
     let more = reduced_more c.args.n c.args.k c.args.pivot.now l.i l.rows c.loop-i-test.true l.at l.invariant.3 row.new.row row.ensures in
-    (omega arith, omega arith, c.rows-1.given.1 ∙ l.invariant.2, omega (arith, next l.i c.args.n), l.invariant.4 ∙ more)
+    (omega arith, omega arith, search rules, omega (arith, next l.i c.args.n), l.invariant.4 ∙ more)
 
 pub returns : goal.returns
 returns c =

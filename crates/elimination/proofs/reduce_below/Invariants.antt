@@ -1,12 +1,8 @@
 -- `reduce_below`: the rows done, with the rows that are left, give all rows below; row i starts at `at`.
 use Prim.Native.Nat.{◌*◌, ◌+◌, ◌-◌, ◌<◌, ◌≤◌}
-use mathlib.Core.Path.{◌∙◌, ◌≡◌, sym}
-use native.Mathlib.Omega.{arith}
-use borrow.Author.Rules.{rules}
+use mathlib.Core.Path.{◌≡◌}
 use lib.ListN.{length}
 use Rattle.elimination.specs.Elimination.{reduced}
-use Rattle.elimination.proofs.Rows.{inside, next}
-use Rattle.elimination.proofs.Reduced.{lent_length, reduced_end, reduced_more}
 use Rattle.elimination.proofs.reduce_below.Given as goal
 
 abbrev pub invariant-loop-i : goal.invariant-loop-i

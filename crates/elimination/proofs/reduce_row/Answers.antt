@@ -2,9 +2,8 @@
 use Rattle.elimination.proofs.Reduced.{right_parts, row_law}
 use Rattle.elimination.specs.Elimination.{factor_of}
 use lib.ListN.{length-set}
-use mathlib.Core.Path.{◌∙◌, refl}
+use mathlib.Core.Path.{refl}
 use native.Mathlib.Omega.{arith}
-use borrow.Author.Rules.{rules}
 use Rattle.elimination.proofs.reduce_row.Goals as goal
 
 pub slice_bounds-take_away-count : goal.slice_bounds-take_away-count
@@ -16,10 +15,6 @@ slice_bounds-take_away-start c = simp length-set (omega arith)
 pub take_away-requires : goal.take_away-requires
 take_away-requires c =
     right_parts c.args.k c.args.row.now c.args.pivot.now _ c.requires.0 c.requires.1
-
-pub shape_of-row : goal.shape_of-row
-shape_of-row c =
-    c.row-1.given.1 ∙ length-set c.args.row.now c.args.k _
 
 pub returns : goal.returns
 returns c =

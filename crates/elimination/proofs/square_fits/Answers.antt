@@ -1,6 +1,5 @@
 -- `square_fits`: n · n is at most `len` exactly if n is at most len / n, for n above 0.
 use native.Mathlib.Omega.{arith}
-use borrow.Author.Rules.{rules}
 use Rattle.elimination.proofs.Rows.{square_mono}
 use Rattle.elimination.proofs.Room.{square_by}
 use Rattle.elimination.proofs.square_fits.Goals as goal

@@ -1,7 +1,6 @@
 -- `swap_rows`: a row swapped with itself stays; else row k goes to row p, and the pivot row to row k.
 use mathlib.Core.Path.{sym}
 use native.Mathlib.Omega.{arith}
-use borrow.Author.Rules.{rules}
 use Prim.Native.Nat.{◌<◌}
 use Rattle.elimination.proofs.Rows.{inside, strictly, swapped_is, swapped_same}
 use Rattle.elimination.proofs.swap_rows.Goals as goal

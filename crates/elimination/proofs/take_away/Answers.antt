@@ -1,11 +1,9 @@
 use Rattle.elimination.specs.Elimination.{less}
 use lib.Ieee.{nan}
-use lib.ListN.{length, length-set}
-use Prim.Native.Nat.{◌-◌, ◌≤◌}
-use mathlib.Core.Path.{◌∙◌, ◌≡◌}
+use lib.ListN.{length-set}
+use mathlib.Core.Path.{◌∙◌}
 use native.Mathlib.Omega.{arith}
-use borrow.Author.Rules.{rules}
-use Rattle.floats.proofs.Rows.{zipped, zipped_more, zipped_all}
+use Rattle.floats.proofs.Rows.{zipped_more, zipped_all}
 use Rattle.elimination.proofs.take_away.Goals as goal
 
 pub loop-j-preserved : goal.loop-j-preserved

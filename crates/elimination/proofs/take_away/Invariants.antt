@@ -1,12 +1,9 @@
 -- `take_away`: the first j entries are done, the rest is as it was.
 use Rattle.elimination.specs.Elimination.{less}
-use lib.Ieee.{nan}
-use lib.ListN.{length, length-set}
+use lib.ListN.{length}
 use Prim.Native.Nat.{◌-◌, ◌≤◌}
-use mathlib.Core.Path.{◌∙◌, ◌≡◌}
-use native.Mathlib.Omega.{arith}
-use borrow.Author.Rules.{rules}
-use Rattle.floats.proofs.Rows.{zipped, zipped_more, zipped_all}
+use mathlib.Core.Path.{◌≡◌}
+use Rattle.floats.proofs.Rows.{zipped}
 use Rattle.elimination.proofs.take_away.Given as goal
 
 abbrev pub invariant-loop-j : goal.invariant-loop-j

@@ -1,11 +1,8 @@
 use native.Mathlib.Omega.{arith}
 use mathlib.Core.Path.{refl}
-use Prim.Native.Nat.{◌≤◌, ◌-◌}
-use lib.ListN.{length}
 use lib.Ieee.{nan}
-use Rattle.lists.proofs.Every.{Tested, tested_more, tested_all}
+use Rattle.lists.proofs.Every.{tested_more, tested_all}
 use Rattle.floats.specs.Floats.{is_finite}
-use borrow.Author.Rules.{rules}
 use Rattle.floats.proofs.all_finite.Goals as goal
 
 pub loop-i-init : goal.loop-i-init

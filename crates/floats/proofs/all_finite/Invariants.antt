@@ -1,12 +1,8 @@
 -- `all_finite`: what is tested so far, with what is left, is the whole test. Assumes nothing.
-use native.Mathlib.Omega.{arith}
-use mathlib.Core.Path.{refl}
 use Prim.Native.Nat.{◌≤◌, ◌-◌}
 use lib.ListN.{length}
-use lib.Ieee.{nan}
-use Rattle.lists.proofs.Every.{Tested, tested_more, tested_all}
+use Rattle.lists.proofs.Every.{Tested}
 use Rattle.floats.specs.Floats.{is_finite}
-use borrow.Author.Rules.{rules}
 use Rattle.floats.proofs.all_finite.Given as goal
 
 abbrev pub invariant-loop-i : goal.invariant-loop-i

@@ -1,11 +1,9 @@
 use Rattle.floats.specs.Inner.{second}
-use Rattle.floats.proofs.Rows.{zipped, zipped_all, zipped_more}
+use Rattle.floats.proofs.Rows.{zipped_all, zipped_more}
 use lib.Ieee.{nan}
-use lib.ListN.{length, length-set}
-use Prim.Native.Nat.{min, ◌-◌, ◌≤◌}
-use mathlib.Core.Path.{◌∙◌, ◌≡◌}
+use lib.ListN.{length-set}
+use mathlib.Core.Path.{◌∙◌}
 use native.Mathlib.Omega.{arith}
-use borrow.Author.Rules.{rules}
 use Rattle.floats.proofs.copy.Goals as goal
 
 pub loop-i-preserved : goal.loop-i-preserved

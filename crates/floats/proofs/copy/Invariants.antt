@@ -1,12 +1,9 @@
 -- `copy`: the first i entries are laid over, the rest is as it was; at the shorter length all are. Assumes nothing.
 use Rattle.floats.specs.Inner.{second}
-use Rattle.floats.proofs.Rows.{zipped, zipped_all, zipped_more}
-use lib.Ieee.{nan}
-use lib.ListN.{length, length-set}
+use Rattle.floats.proofs.Rows.{zipped}
+use lib.ListN.{length}
 use Prim.Native.Nat.{min, ◌-◌, ◌≤◌}
-use mathlib.Core.Path.{◌∙◌, ◌≡◌}
-use native.Mathlib.Omega.{arith}
-use borrow.Author.Rules.{rules}
+use mathlib.Core.Path.{◌≡◌}
 use Rattle.floats.proofs.copy.Given as goal
 
 abbrev pub invariant-loop-i : goal.invariant-loop-i

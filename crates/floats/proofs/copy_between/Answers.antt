@@ -1,5 +1,4 @@
 -- `copy_between`: a part of one row is copied over a part of another. Assumes nothing.
-use borrow.Author.Rules.{rules}
 use Rattle.floats.proofs.Parts.{copied_across}
 use Rattle.floats.proofs.copy_between.Goals as goal
 

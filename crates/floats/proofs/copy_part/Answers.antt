@@ -1,7 +1,6 @@
 -- `copy_part`: where both parts are there one is copied over the other, else nothing is done. Assumes nothing.
 use mathlib.Core.Path.{◌∙◌, sym}
 use lib.ListN.{length}
-use borrow.Author.Rules.{rules}
 use Rattle.floats.specs.Inner.{copied_part}
 use Rattle.floats.proofs.Parts.{both_fit, not-fit, copied_fits}
 use Rattle.floats.proofs.copy_part.Goals as goal

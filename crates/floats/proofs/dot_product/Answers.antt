@@ -1,8 +1,6 @@
 use Rattle.floats.proofs.Sums.{sum_end, sum_more}
-use Rattle.floats.specs.Floats.{zero32, dot, sum_from}
-use lib.ListN.{drop, length}
-use Prim.Native.Nat.{min, ◌-◌, ◌≤◌}
-use mathlib.Core.Path.{◌∙◌, ◌≡◌, sym, refl}
+use Rattle.floats.specs.Floats.{dot}
+use mathlib.Core.Path.{◌∙◌, sym, refl}
 use native.Mathlib.Omega.{arith}
 use borrow.Author.Rules.{rules}
 use Rattle.floats.proofs.dot_product.Goals as goal

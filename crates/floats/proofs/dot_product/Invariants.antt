@@ -1,11 +1,8 @@
 -- `dot_product`: the sum so far, with the products that are left, is the whole. Assumes nothing.
-use Rattle.floats.proofs.Sums.{sum_end, sum_more}
-use Rattle.floats.specs.Floats.{zero32, dot, sum_from}
+use Rattle.floats.specs.Floats.{zero32, sum_from}
 use lib.ListN.{drop, length}
 use Prim.Native.Nat.{min, ◌-◌, ◌≤◌}
-use mathlib.Core.Path.{◌∙◌, ◌≡◌, sym, refl}
-use native.Mathlib.Omega.{arith}
-use borrow.Author.Rules.{rules}
+use mathlib.Core.Path.{◌≡◌}
 use Rattle.floats.proofs.dot_product.Given as goal
 
 abbrev pub invariant-loop-i : goal.invariant-loop-i

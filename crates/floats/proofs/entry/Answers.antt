@@ -2,7 +2,6 @@
 use mathlib.Core.Path.{sym}
 use lib.ListN.{get_or-eq_default}
 use lib.Ieee.{nan}
-use borrow.Author.Rules.{rules}
 use Rattle.lists.proofs.Lists.{any_default}
 use Rattle.floats.specs.Floats.{zero32, entry_of}
 use Rattle.floats.proofs.entry.Goals as goal

@@ -2,7 +2,6 @@
 use Rattle.lists.proofs.Parts.{cut}
 use Rattle.floats.specs.Floats.{all_finite}
 use mathlib.Core.Path.{◌∙◌, ap}
-use borrow.Author.Rules.{rules}
 use Rattle.floats.proofs.is_finite_part.Goals as goal
 
 pub returns : goal.returns

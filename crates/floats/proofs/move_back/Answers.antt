@@ -1,12 +1,11 @@
 use lib.Ieee.{nan}
-use lib.ListN.{length, length-set}
-use Prim.Native.Nat.{◌+◌, ◌-◌, ◌≤◌, ℕ}
+use lib.ListN.{length-set}
+use Prim.Native.Nat.{◌+◌, ℕ}
 use mathlib.Core.Path.{◌∙◌, ◌≡◌, ap, refl}
 use native.Mathlib.Omega.{arith}
 use lib.Seq.{paste, paste-zero}
 use Rattle.lists.specs.Lists.{part}
 use Rattle.lists.proofs.Parts.{moved_all, moved_more}
-use borrow.Author.Rules.{rules}
 use Rattle.floats.proofs.move_back.Goals as goal
 
 pub loop-i-init : goal.loop-i-init

@@ -1,13 +1,9 @@
 -- `move_back`: the first i entries are moved; those that are read are as they were. Assumes nothing.
-use lib.Ieee.{nan}
-use lib.ListN.{length, length-set}
-use Prim.Native.Nat.{◌+◌, ◌-◌, ◌≤◌, ℕ}
-use mathlib.Core.Path.{◌∙◌, ◌≡◌, ap, refl}
-use native.Mathlib.Omega.{arith}
-use lib.Seq.{paste, paste-zero}
+use lib.ListN.{length}
+use Prim.Native.Nat.{◌-◌, ◌≤◌}
+use mathlib.Core.Path.{◌≡◌}
+use lib.Seq.{paste}
 use Rattle.lists.specs.Lists.{part}
-use Rattle.lists.proofs.Parts.{moved_all, moved_more}
-use borrow.Author.Rules.{rules}
 use Rattle.floats.proofs.move_back.Given as goal
 
 abbrev pub invariant-loop-i : goal.invariant-loop-i

@@ -1,7 +1,6 @@
 -- `move_part`: where the part fits further back it is moved there, else nothing is done. Assumes nothing.
 use mathlib.Core.Path.{◌∙◌, sym}
 use lib.ListN.{length}
-use borrow.Author.Rules.{rules}
 use Rattle.floats.specs.Inner.{moved_part}
 use Rattle.floats.proofs.Parts.{both_fit, not-fit, moved_fits}
 use Rattle.floats.proofs.move_part.Goals as goal

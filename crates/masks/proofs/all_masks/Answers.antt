@@ -1,9 +1,6 @@
 use native.Mathlib.Omega.{arith}
 use mathlib.Core.Path.{refl}
-use Prim.Native.Nat.{◌-◌, ◌≤◌}
-use lib.ListN.{length}
-use borrow.Author.Rules.{rules}
-use Rattle.lists.proofs.Every.{Tested, tested_all, tested_more}
+use Rattle.lists.proofs.Every.{tested_all, tested_more}
 use Rattle.masks.specs.Masks.{is_mask}
 use Rattle.masks.proofs.all_masks.Goals as goal
 

@@ -1,10 +1,7 @@
 -- `all_masks`: what is tested so far, with what is left, is the whole test. Assumes nothing.
-use native.Mathlib.Omega.{arith}
-use mathlib.Core.Path.{refl}
 use Prim.Native.Nat.{◌-◌, ◌≤◌}
 use lib.ListN.{length}
-use borrow.Author.Rules.{rules}
-use Rattle.lists.proofs.Every.{Tested, tested_all, tested_more}
+use Rattle.lists.proofs.Every.{Tested}
 use Rattle.masks.specs.Masks.{is_mask}
 use Rattle.masks.proofs.all_masks.Given as goal
 

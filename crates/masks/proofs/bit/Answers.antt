@@ -1,7 +1,6 @@
 -- `bit`: a shift and an and are a division and a remainder. Assumes nothing.
 use Prim.Native.Nat.{◌/◌, ◌^◌}
 use lib.Bits.{and_mask}
-use borrow.Author.Rules.{rules}
 use Rattle.masks.specs.Masks.{bit_of}
 use Rattle.masks.proofs.bit.Goals as goal
 

@@ -1,5 +1,4 @@
 -- `damping_refusal` has the definition's own tests and numbers. Assumes nothing.
-use borrow.Author.Rules.{rules}
 use Rattle.masks.specs.Answers.{damping_refusal}
 use Rattle.masks.specs.Masks.{dofs_of}
 use Rattle.masks.proofs.damping_refusal.Goals as goal

@@ -1,5 +1,4 @@
 -- `dof_count` has the definition's own refusal and count. Assumes nothing.
-use borrow.Author.Rules.{rules}
 use Rattle.masks.specs.Answers.{dofs_answer}
 use Rattle.masks.specs.Masks.{dofs_of}
 use Rattle.masks.proofs.dof_count.Goals as goal

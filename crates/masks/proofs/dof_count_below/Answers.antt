@@ -1,5 +1,4 @@
 -- `dof_count_below` has the definition's own refusal and count. Assumes nothing.
-use borrow.Author.Rules.{rules}
 use Rattle.masks.specs.Answers.{below_answer}
 use Rattle.masks.proofs.dof_count_below.Goals as goal
 

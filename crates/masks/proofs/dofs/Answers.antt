@@ -1,5 +1,4 @@
 -- `dofs` counts below axis 3, which is all. Assumes nothing.
-use borrow.Author.Rules.{rules}
 use Rattle.masks.specs.Masks.{dofs_of}
 use Rattle.masks.proofs.dofs.Goals as goal
 

@@ -1,11 +1,9 @@
 use native.Mathlib.Omega.{arith}
-use mathlib.Core.Logic.{⊎_elim}
 use mathlib.Core.Path.{◌≡◌, ◌∙◌, sym, ap}
-use Prim.Native.Nat.{◌-◌, ◌≤◌, ℕ}
-use borrow.Author.Rules.{rules}
+use Prim.Native.Nat.{ℕ}
 use Rattle.lists.specs.Lists.{laid}
 use Rattle.masks.specs.Masks.{dofs_below, dofs_of, damping_below, damping_row}
-use Rattle.masks.proofs.Fills.{Damped, damped_none, damped_free, damped_locked}
+use Rattle.masks.proofs.Fills.{damped_none, damped_free, damped_locked}
 use Rattle.masks.proofs.Laws.{below_free, dofs_le}
 use Rattle.masks.proofs.fill_damping.Goals as goal
 use Rattle.masks.proofs.fill_damping.Goals.{then-free, else-free}

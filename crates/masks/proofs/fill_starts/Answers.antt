@@ -1,8 +1,7 @@
 use native.Mathlib.Omega.{arith}
 use mathlib.Core.Path.{◌∙◌, ◌≡◌, refl, ap}
-use Prim.Native.Nat.{◌-◌, ◌≤◌, ℕ}
+use Prim.Native.Nat.{ℕ}
 use lib.ListN.{get_or, length, length-set}
-use borrow.Author.Rules.{rules}
 use Rattle.lists.specs.Lists.{laid}
 use Rattle.masks.specs.Starts.{start_of, starts_to, total_of, starts_of}
 use Rattle.masks.proofs.Fills.{starts_more, laid_none}

@@ -1,7 +1,6 @@
 -- `free` tests for one of the three axes, then its bit. Assumes nothing.
 use mathlib.Core.Path.{◌∙◌, sym}
 use borrow.Author.Tests.{leb-true}
-use borrow.Author.Rules.{rules}
 use Rattle.masks.specs.Masks.{is_free}
 use Rattle.masks.proofs.free.Goals as goal
 

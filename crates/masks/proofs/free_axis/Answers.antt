@@ -1,5 +1,4 @@
 -- `free_axis` has the definition's own refusal and answer. Assumes nothing.
-use borrow.Author.Rules.{rules}
 use Rattle.masks.specs.Answers.{free_answer}
 use Rattle.masks.proofs.free_axis.Goals as goal
 

@@ -1,5 +1,4 @@
 -- `num_velocity_constraints` has the definition's own refusal and sum. Assumes nothing.
-use borrow.Author.Rules.{rules}
 use Rattle.masks.specs.Answers.{constraints_answer}
 use Rattle.masks.specs.Masks.{constraints_of}
 use Rattle.masks.proofs.num_velocity_constraints.Goals as goal

@@ -1,6 +1,5 @@
 -- `starts`: what is accepted fits the memory and is laid over it; a refusal leaves it as it was. Assumes nothing.
 use mathlib.Core.Path.{◌∙◌, sym}
-use borrow.Author.Rules.{rules}
 use Rattle.refusal.proofs.Answers.{filled_none, filled_some}
 use Rattle.masks.specs.Answers.{starts_answer}
 use Rattle.masks.proofs.Answers.{starts_fit}

@@ -1,5 +1,4 @@
 -- `starts_refusal` has the definition's own tests and numbers. Assumes nothing.
-use borrow.Author.Rules.{rules}
 use Rattle.masks.specs.Answers.{starts_refusal}
 use Rattle.masks.proofs.starts_refusal.Goals as goal
 

@@ -1,5 +1,4 @@
 -- `body_to_parent`: the definition, step by step. Assumes nothing.
-use borrow.Author.Rules.{rules}
 use Rattle.multibody_joint.specs.Joint.{slid_pose, body_to_parent}
 use Rattle.multibody_joint.proofs.body_to_parent.Goals as goal
 

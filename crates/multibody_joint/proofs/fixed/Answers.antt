@@ -1,6 +1,5 @@
 -- `fixed`: the definition, by its frames. Assumes nothing.
 use Rattle.multibody_joint.specs.Joint.{fixed_joint}
-use borrow.Author.Rules.{rules}
 use Rattle.multibody_joint.proofs.fixed.Goals as goal
 
 pub returns : goal.returns

@@ -1,6 +1,5 @@
 -- `free`: the definition, by its motion. Assumes nothing.
 use Rattle.multibody_joint.specs.Joint.{free_joint}
-use borrow.Author.Rules.{rules}
 use Rattle.multibody_joint.proofs.free.Goals as goal
 
 pub returns : goal.returns

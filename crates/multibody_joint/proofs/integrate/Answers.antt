@@ -1,6 +1,5 @@
 -- `integrate`: its three coordinates and its rotation are the definition's. Assumes nothing.
 use Rattle.multibody_joint.specs.Motion.{integrated}
-use borrow.Author.Rules.{rules}
 use Rattle.multibody_joint.proofs.integrate.Goals as goal
 
 pub returns : goal.returns

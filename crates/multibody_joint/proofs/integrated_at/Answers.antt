@@ -1,6 +1,5 @@
 -- `integrated_at`: each branch is its case of the definition. Assumes nothing.
 use mathlib.Core.Path.{◌∙◌, sym}
-use borrow.Author.Rules.{rules}
 use Rattle.multibody_joint.specs.Motion.{integrated_at}
 use Rattle.multibody_joint.proofs.integrated_at.Goals as goal
 

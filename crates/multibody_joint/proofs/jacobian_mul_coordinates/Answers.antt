@@ -1,5 +1,4 @@
 -- `jacobian_mul_coordinates`: its three entries are the definition's. Assumes nothing.
-use borrow.Author.Rules.{rules}
 use Rattle.multibody_joint.specs.Motion.{on_axes}
 use Rattle.multibody_joint.proofs.jacobian_mul_coordinates.Goals as goal
 

@@ -1,6 +1,5 @@
 -- `new_joint`: the definition, field by field. Assumes nothing.
 use Rattle.multibody_joint.specs.Joint.{new_joint}
-use borrow.Author.Rules.{rules}
 use Rattle.multibody_joint.proofs.new_joint.Goals as goal
 
 pub returns : goal.returns

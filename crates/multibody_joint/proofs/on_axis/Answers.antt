@@ -1,6 +1,5 @@
 -- `on_axis`: each branch is its case of the definition. Assumes nothing.
 use mathlib.Core.Path.{◌∙◌, sym}
-use borrow.Author.Rules.{rules}
 use Rattle.multibody_joint.specs.Motion.{on_axis}
 use Rattle.multibody_joint.proofs.on_axis.Goals as goal
 

@@ -1,6 +1,5 @@
 -- `renewed_rotation`: each branch is its case of the definition. Assumes nothing.
 use mathlib.Core.Path.{◌∙◌, sym}
-use borrow.Author.Rules.{rules}
 use Rattle.multibody_joint.specs.Motion.{renewed}
 use Rattle.multibody_joint.proofs.renewed_rotation.Goals as goal
 

@@ -1,6 +1,5 @@
 -- `set_free_pos`: the definition, by its motion. Assumes nothing.
 use Rattle.multibody_joint.specs.Joint.{free_pos_set}
-use borrow.Author.Rules.{rules}
 use Rattle.multibody_joint.proofs.set_free_pos.Goals as goal
 
 pub returns : goal.returns

@@ -1,6 +1,5 @@
 -- `set_spring`: each branch is its case of the definition. Assumes nothing.
 use borrow.Author.Tests.{le-leb, lt-leb}
-use borrow.Author.Rules.{rules}
 use Rattle.multibody_joint.specs.Springs.{spring_set}
 use Rattle.multibody_joint.proofs.set_spring.Goals as goal
 

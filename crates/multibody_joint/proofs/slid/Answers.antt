@@ -1,6 +1,5 @@
 -- `slid`: each branch is its case of the definition. Assumes nothing.
 use mathlib.Core.Path.{◌∙◌, sym}
-use borrow.Author.Rules.{rules}
 use Rattle.multibody_joint.specs.Joint.{slid_by}
 use Rattle.multibody_joint.proofs.slid.Goals as goal
 

@@ -1,6 +1,5 @@
 -- `spring_of`: each branch is its case of the definition. Assumes nothing.
 use borrow.Author.Tests.{le-leb, lt-leb}
-use borrow.Author.Rules.{rules}
 use Rattle.multibody_joint.specs.Springs.{spring_of}
 use Rattle.multibody_joint.proofs.spring_of.Goals as goal
 

@@ -1,7 +1,6 @@
 -- `byte`: past the end there is none. Assumes nothing.
 use mathlib.Core.Path.{sym}
 use lib.ListN.{get_or-eq_default}
-use borrow.Author.Rules.{rules}
 use Rattle.numerals.proofs.byte.Goals as goal
 
 pub returns-else-at-bytes : goal.returns-else-at-bytes

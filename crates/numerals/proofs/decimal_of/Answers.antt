@@ -1,11 +1,8 @@
-use mathlib.Core.List.{append-nil, ◌++◌}
+use mathlib.Core.List.{append-nil}
 use native.Mathlib.Omega.{arith}
-use lib.ListN.{drop, length, length-set}
-use Prim.Native.Nat.{◌+◌, ◌≤◌}
-use mathlib.Core.Path.{◌≡◌, refl, ◌∙◌, sym}
-use borrow.Author.Rules.{rules}
+use lib.ListN.{length-set}
+use mathlib.Core.Path.{refl, ◌∙◌, sym}
 use Rattle.numerals.proofs.Storing.{all_digits, more_digits, next_digit}
-use Rattle.numerals.specs.Decimal.{digits_of, decimal}
 use Rattle.numerals.proofs.decimal_of.Goals as goal
 
 pub loop-rest-init : goal.loop-rest-init

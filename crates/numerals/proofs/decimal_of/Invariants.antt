@@ -1,11 +1,8 @@
 -- `decimal_of`: the digits in place are the last of the number, and those of the rest come before them. Assumes nothing.
-use mathlib.Core.List.{append-nil, ◌++◌}
-use native.Mathlib.Omega.{arith}
-use lib.ListN.{drop, length, length-set}
+use mathlib.Core.List.{◌++◌}
+use lib.ListN.{drop, length}
 use Prim.Native.Nat.{◌+◌, ◌≤◌}
-use mathlib.Core.Path.{◌≡◌, refl, ◌∙◌, sym}
-use borrow.Author.Rules.{rules}
-use Rattle.numerals.proofs.Storing.{all_digits, more_digits, next_digit}
+use mathlib.Core.Path.{◌≡◌}
 use Rattle.numerals.specs.Decimal.{digits_of, decimal}
 use Rattle.numerals.proofs.decimal_of.Given as goal
 

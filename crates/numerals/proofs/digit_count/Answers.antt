@@ -1,6 +1,5 @@
 -- `digit_count`: as many as stand from the first on. Assumes nothing.
 use Rattle.numerals.proofs.Digits.{counted}
-use borrow.Author.Rules.{rules}
 use Rattle.numerals.proofs.digit_count.Goals as goal
 
 pub returns : goal.returns

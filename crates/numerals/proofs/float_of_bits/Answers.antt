@@ -1,7 +1,6 @@
 -- `float_of_bits`: above 7f800000, the sign left out, a pattern is a NaN's; any other is a float's own. Assumes nothing.
 use lib.Ieee.{div, of_bits}
 use mathlib.Core.Path.{sym}
-use borrow.Author.Rules.{rules}
 use Rattle.numerals.proofs.Bits.{nan-of_bits, other_of_bits}
 use Rattle.numerals.proofs.float_of_bits.Goals as goal
 

@@ -1,6 +1,5 @@
 -- `read_u16`: its bytes, one by one. Assumes nothing.
 use Rattle.numerals.proofs.Bytes.{two}
-use borrow.Author.Rules.{rules}
 use Rattle.numerals.proofs.read_u16.Goals as goal
 
 pub returns : goal.returns

@@ -1,6 +1,5 @@
 -- `read_u32`: its halves, one by one. Assumes nothing.
 use Rattle.numerals.proofs.Bytes.{four}
-use borrow.Author.Rules.{rules}
 use Rattle.numerals.proofs.read_u32.Goals as goal
 
 pub returns : goal.returns

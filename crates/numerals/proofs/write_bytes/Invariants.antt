@@ -1,12 +1,8 @@
 -- `write_bytes`: the first i bytes are in place, all else is as it was. Assumes nothing.
-use native.Mathlib.Numerals.{add-one}
-use lib.Seq.{paste, paste-zero, paste-suc}
-use mathlib.Core.Path.{◌≡◌, refl, sym}
+use lib.Seq.{paste}
+use mathlib.Core.Path.{◌≡◌}
 use Prim.Native.Nat.{◌+◌, ◌-◌, ◌≤◌}
-use native.Mathlib.Omega.{arith}
-use lib.ListN.{length, length-set}
-use borrow.Author.Rules.{rules}
-use Rattle.numerals.proofs.Storing.{no_room, all_stored}
+use lib.ListN.{length}
 use Rattle.numerals.proofs.write_bytes.Given as goal
 
 abbrev pub invariant-loop-i : goal.invariant-loop-i

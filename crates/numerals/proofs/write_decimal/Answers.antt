@@ -3,7 +3,6 @@ use Rattle.numerals.proofs.Storing.{rest_of}
 use Rattle.numerals.specs.Written.{written, bytes_written}
 use mathlib.Core.Path.{ap, ◌∙◌}
 use native.Mathlib.Omega.{arith}
-use borrow.Author.Rules.{rules}
 use Rattle.numerals.proofs.write_decimal.Goals as goal
 
 pub slice_bounds-write_bytes-end : goal.slice_bounds-write_bytes-end

@@ -10,11 +10,11 @@ use Rattle.one_link_move.proofs.parent_among.Goals as goal
 
 pub returns-then-link-live_links : goal.returns-then-link-live_links
 returns-then-link-live_links c =
-    let ps = c.args.t1 in
+    let ps = c.args.parents in
     let m = min c.args.count link_limit in
     sym (get_or-take m ps c.args.link 0 (omega (arith, c.live_links.ensures, c.if-link-live_links.true)))
 
 pub returns-else-link-live_links : goal.returns-else-link-live_links
 returns-else-link-live_links c =
     let m = min c.args.count link_limit in
-    sym (get_or-eq_default (take m c.args.t1) 0 (simp length-take (omega (arith, c.live_links.ensures, c.if-link-live_links.false))))
+    sym (get_or-eq_default (take m c.args.parents) 0 (simp length-take (omega (arith, c.live_links.ensures, c.if-link-live_links.false))))

@@ -13,7 +13,7 @@ use Rattle.part_arm.proofs.couplings_out.Goals as goal
 
 pub loop-i-init : goal.loop-i-init
 loop-i-init c =
-    let turns = coupling_turn (places_in c.args.places c.args.k) c.args.t1 in
+    let turns = coupling_turn (places_in c.args.places c.args.k) c.args.arm in
     let first = laid_none turns empty_arm.couplings in (
       c.fewer-n.ensures,
       omega arith,
@@ -23,26 +23,26 @@ loop-i-init c =
 pub offset_bounds-couplings-count : goal.offset_bounds-couplings-count
 offset_bounds-couplings-count c =
     let room : c.loop-i.count < coupling_limit =     let k = c.loop-i in
-    coupling_room (places_in c.args.places c.args.k) c.args.t1 k.i k.couplings k.count k.invariant.2 (omega arith) in
+    coupling_room (places_in c.args.places c.args.k) c.args.arm k.i k.couplings k.count k.invariant.2 (omega arith) in
     omega (arith, room)
 
 pub bounds-couplings-count : goal.bounds-couplings-count
 bounds-couplings-count c =
     let room : c.loop-i.count < coupling_limit =     let k = c.loop-i in
-    coupling_room (places_in c.args.places c.args.k) c.args.t1 k.i k.couplings k.count k.invariant.2 (omega arith) in
+    coupling_room (places_in c.args.places c.args.k) c.args.arm k.i k.couplings k.count k.invariant.2 (omega arith) in
     omega (arith, room)
 
 pub overflow_add-count : goal.overflow_add-count
 overflow_add-count c =
     let room : c.loop-i.count < coupling_limit =     let k = c.loop-i in
-    coupling_room (places_in c.args.places c.args.k) c.args.t1 k.i k.couplings k.count k.invariant.2 (omega arith) in
+    coupling_room (places_in c.args.places c.args.k) c.args.arm k.i k.couplings k.count k.invariant.2 (omega arith) in
     omega (arith, room)
 
 pub loop-i-preserved : goal.loop-i-preserved
 loop-i-preserved c =
     let k = c.loop-i in
     let p = places_in c.args.places c.args.k in
-    let a = c.args.t1 in
+    let a = c.args.arm in
     let stays = c.coupling_stays.ensures in
     ⊎_elim
     (λ w. (
@@ -57,4 +57,4 @@ loop-i-preserved c =
 pub returns : goal.returns
 returns c =
     let k = c.loop-i in
-    couplings_done (places_in c.args.places c.args.k) c.args.t1 k.i k.couplings k.count k.invariant.2 (omega arith)
+    couplings_done (places_in c.args.places c.args.k) c.args.arm k.i k.couplings k.count k.invariant.2 (omega arith)

@@ -14,7 +14,7 @@ use Rattle.part_arm.proofs.links_out.Goals as goal
 
 pub loop-j-init : goal.loop-j-init
 loop-j-init c =
-    let turns = link_turn (places_in c.args.places c.args.k) c.args.t1 in
+    let turns = link_turn (places_in c.args.places c.args.k) c.args.arm in
     let first = laid_none turns empty_arm.links in (
       c.live_links-n.ensures,
       omega arith,
@@ -24,26 +24,26 @@ loop-j-init c =
 pub offset_bounds-links-count : goal.offset_bounds-links-count
 offset_bounds-links-count c =
     let room : c.loop-j.count < link_limit =     let k = c.loop-j in
-    link_room (places_in c.args.places c.args.k) c.args.t1 k.j k.links k.count k.invariant.2 (omega arith) in
+    link_room (places_in c.args.places c.args.k) c.args.arm k.j k.links k.count k.invariant.2 (omega arith) in
     omega (arith, room)
 
 pub bounds-links-count : goal.bounds-links-count
 bounds-links-count c =
     let room : c.loop-j.count < link_limit =     let k = c.loop-j in
-    link_room (places_in c.args.places c.args.k) c.args.t1 k.j k.links k.count k.invariant.2 (omega arith) in
+    link_room (places_in c.args.places c.args.k) c.args.arm k.j k.links k.count k.invariant.2 (omega arith) in
     omega (arith, room)
 
 pub overflow_add-count : goal.overflow_add-count
 overflow_add-count c =
     let room : c.loop-j.count < link_limit =     let k = c.loop-j in
-    link_room (places_in c.args.places c.args.k) c.args.t1 k.j k.links k.count k.invariant.2 (omega arith) in
+    link_room (places_in c.args.places c.args.k) c.args.arm k.j k.links k.count k.invariant.2 (omega arith) in
     omega (arith, room)
 
 pub loop-j-preserved : goal.loop-j-preserved
 loop-j-preserved c =
     let k = c.loop-j in
     let p = places_in c.args.places c.args.k in
-    let a = c.args.t1 in
+    let a = c.args.arm in
     let here = c.is_here.ensures in
     ⊎_elim
     (λ w. (
@@ -58,4 +58,4 @@ loop-j-preserved c =
 pub returns : goal.returns
 returns c =
     let k = c.loop-j in
-    links_done (places_in c.args.places c.args.k) c.args.t1 k.j k.links k.count k.invariant.2 (omega arith)
+    links_done (places_in c.args.places c.args.k) c.args.arm k.j k.links k.count k.invariant.2 (omega arith)

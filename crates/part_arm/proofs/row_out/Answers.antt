@@ -18,13 +18,13 @@ use Rattle.arm.specs.Arm.{live_links, start_at, own_part}
 use Rattle.part_arm.proofs.row_out.Goals as goal
 
 pub loop-j-init : goal.loop-j-init
-loop-j-init c = (c.live_links-n.ensures, omega arith, start_none c.args.t1, omega arith, laid_none _ _)
+loop-j-init c = (c.live_links-n.ensures, omega arith, start_none c.args.arm, omega arith, laid_none _ _)
 
 pub slice_bounds-copy_part-end : goal.slice_bounds-copy_part-end
 slice_bounds-copy_part-end c =
     let room : c.loop-j.start + c.dofs-d.result ≤ dof_limit =     let k = c.loop-j in
     let own = c.args in
-    row_room (places_in own.places own.k) own.t1 (links_length own.t1 c.well_formed.0) own.row.entries (row-length own.row c.well_formed.1.1.1.0)
+    row_room (places_in own.places own.k) own.arm (links_length own.arm c.well_formed.0) own.row.entries (row-length own.row c.well_formed.1.1.1.0)
     k.j c.dofs-d.result _ (omega arith) c.dofs-d.ensures k.start k.invariant.2 in
     let k = c.loop-j in
     let r = room in
@@ -34,7 +34,7 @@ pub overflow_add-at : goal.overflow_add-at
 overflow_add-at c =
     let room : c.loop-j.start + c.dofs-d.result ≤ dof_limit =     let k = c.loop-j in
     let own = c.args in
-    row_room (places_in own.places own.k) own.t1 (links_length own.t1 c.well_formed.0) own.row.entries (row-length own.row c.well_formed.1.1.1.0)
+    row_room (places_in own.places own.k) own.arm (links_length own.arm c.well_formed.0) own.row.entries (row-length own.row c.well_formed.1.1.1.0)
     k.j c.dofs-d.result _ (omega arith) c.dofs-d.ensures k.start k.invariant.2 in
     omega (arith, room)
 
@@ -42,7 +42,7 @@ pub overflow_add-start : goal.overflow_add-start
 overflow_add-start c =
     let room : c.loop-j.start + c.dofs-d.result ≤ dof_limit =     let k = c.loop-j in
     let own = c.args in
-    row_room (places_in own.places own.k) own.t1 (links_length own.t1 c.well_formed.0) own.row.entries (row-length own.row c.well_formed.1.1.1.0)
+    row_room (places_in own.places own.k) own.arm (links_length own.arm c.well_formed.0) own.row.entries (row-length own.row c.well_formed.1.1.1.0)
     k.j c.dofs-d.result _ (omega arith) c.dofs-d.ensures k.start k.invariant.2 in
     omega (arith, room)
 
@@ -50,11 +50,11 @@ pub loop-j-preserved : goal.loop-j-preserved
 loop-j-preserved c =
     let room : c.loop-j.start + c.dofs-d.result ≤ dof_limit =     let k = c.loop-j in
     let own = c.args in
-    row_room (places_in own.places own.k) own.t1 (links_length own.t1 c.well_formed.0) own.row.entries (row-length own.row c.well_formed.1.1.1.0)
+    row_room (places_in own.places own.k) own.arm (links_length own.arm c.well_formed.0) own.row.entries (row-length own.row c.well_formed.1.1.1.0)
     k.j c.dofs-d.result _ (omega arith) c.dofs-d.ensures k.start k.invariant.2 in
     let k = c.loop-j in
     let d = c.dofs-d in
-    let a = c.args.t1 in
+    let a = c.args.arm in
     let old = c.args.row.entries in
     let p = places_in c.args.places c.args.k in
     let w = links_length a c.well_formed.0 in
@@ -86,4 +86,4 @@ pub returns : goal.returns
 returns c =
     let own = c.args in
     let k = c.loop-j in
-    row_done (places_in own.places own.k) own.t1 own.row k.j k.entries k.at k.invariant.4 (omega arith)
+    row_done (places_in own.places own.k) own.arm own.row k.j k.entries k.at k.invariant.4 (omega arith)

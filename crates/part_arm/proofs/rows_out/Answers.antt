@@ -11,12 +11,12 @@ use Rattle.part_arm.specs.Part.{part_row}
 use Rattle.part_arm.proofs.rows_out.Goals as goal
 
 pub loop-i-init : goal.loop-i-init
-loop-i-init c = (omega arith, rows_length c.args.t1 c.well-formed.0, refl)
+loop-i-init c = (omega arith, rows_length c.args.arm c.well_formed.0, refl)
 
 pub loop-i-preserved : goal.loop-i-preserved
 loop-i-preserved c =
     let k = c.loop-i in
-    let a = c.args.t1 in
+    let a = c.args.arm in
     let f = part_row (places_in c.args.places c.args.k) a in
     let n : length a.rows ≡ 5 = rows_length a c.well_formed.0 in
     let m : length (map f a.rows) ≡ length a.rows = length-map a.rows f in (
@@ -29,7 +29,7 @@ loop-i-preserved c =
 pub returns : goal.returns
 returns c =
     let k = c.loop-i in
-    let a = c.args.t1 in
+    let a = c.args.arm in
     let f = part_row (places_in c.args.places c.args.k) a in
     let n : length a.rows ≡ 5 = rows_length a c.well_formed.0 in
     let m : length (map f a.rows) ≡ length a.rows = length-map a.rows f in

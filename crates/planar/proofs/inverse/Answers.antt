@@ -1,5 +1,4 @@
 -- `inverse`: its two parts are the definition's. Assumes nothing.
-use borrow.Author.Rules.{rules}
 use Rattle.planar.specs.Poses.{pose_inverse}
 use Rattle.planar.proofs.inverse.Goals as goal
 

@@ -1,5 +1,4 @@
 -- `is_finite_point`: both floats' tests. Assumes nothing.
-use borrow.Author.Rules.{rules}
 use Rattle.planar.specs.Poses.{finite_point}
 use Rattle.planar.proofs.is_finite_point.Goals as goal
 

@@ -1,5 +1,4 @@
 -- `is_finite_pose`: the tests of its two parts. Assumes nothing.
-use borrow.Author.Rules.{rules}
 use Rattle.planar.specs.Poses.{finite_pose}
 use Rattle.planar.proofs.is_finite_pose.Goals as goal
 

@@ -1,5 +1,4 @@
 -- `is_finite_rotation`: both floats' tests. Assumes nothing.
-use borrow.Author.Rules.{rules}
 use Rattle.planar.specs.Poses.{finite_rotation}
 use Rattle.planar.proofs.is_finite_rotation.Goals as goal
 

@@ -1,5 +1,4 @@
 -- `placed`: the turned point, then the two sums. Assumes nothing.
-use borrow.Author.Rules.{rules}
 use Rattle.planar.specs.Poses.{placed_by}
 use Rattle.planar.proofs.placed.Goals as goal
 

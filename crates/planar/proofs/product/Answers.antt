@@ -1,5 +1,4 @@
 -- `product`: its two parts are the definition's. Assumes nothing.
-use borrow.Author.Rules.{rules}
 use Rattle.planar.specs.Poses.{pose_product}
 use Rattle.planar.proofs.product.Goals as goal
 

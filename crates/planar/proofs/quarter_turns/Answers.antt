@@ -1,11 +1,11 @@
-use Prim.Native.Nat.{◌+◌, ◌/◌, ◌≤◌, ◌<◌}
+use Prim.Native.Nat.{◌+◌, ◌/◌}
 use native.Mathlib.Omega.{arith}
 use mathlib.Core.Path.{sym, ◌∙◌}
-use mathlib.Core.Logic.{⊎_elim}
 use borrow.Author.Tests.{leb-true, leb-false}
 use Rattle.planar.specs.Rotation.{quarter_turns}
 use Rattle.planar.proofs.Turns.{turns_le}
 use Rattle.planar.proofs.quarter_turns.Goals as goal
+use Rattle.planar.proofs.quarter_turns.Goals.{then-k-eq0+then-comes_to, then-k-eq0+else-comes_to, else-k-eq0+then-k-half-le163+then-comes_to-2, else-k-eq0+else-k-half-le163, else-k-half-le163-via-then-k-half-le163+else-comes_to-2, else-k-half-le163-via-else-k-half-le163}
 
 pub loop-size-init : goal.loop-size-init
 loop-size-init c = omega (arith, turns_le c.args.a)
@@ -38,17 +38,23 @@ loop-size-preserved c =
     let most = turns_le c.args.a in
     let half = c.loop-size.size / 2 in
     let middle = c.loop-size.k + half in
-    ⊎_elim
-    (λ w. let h = leb-true half count (sym w.1.ensures ∙ w.2.taken) in omega arith)
-    (⊎_elim
-    (λ w. let h = leb-false half count (sym w.1.ensures ∙ w.2.left) in omega arith)
-    (⊎_elim
-    (λ w. let h = leb-true middle count (sym w.2.ensures ∙ w.3.taken) in omega arith)
-    (λ w. ⊎_elim
-    (λ v. let h = leb-false middle count (sym v.1.ensures ∙ v.2.left) in omega arith)
-    (λ v. omega arith)
-    w.1.came)))
-    c.if-k-eq0.branch
+    elim c.if-k-eq0.branch [
+      | then-k-eq0+then-comes_to w ↦
+          let h = leb-true half count (sym w.comes_to.ensures ∙ w.if-comes_to.true) in
+          omega arith
+      | then-k-eq0+else-comes_to w ↦
+          let h = leb-false half count (sym w.comes_to.ensures ∙ w.if-comes_to.false) in
+          omega arith
+      | else-k-eq0+then-k-half-le163+then-comes_to-2 w ↦
+          let h = leb-true middle count (sym w.comes_to-then-k-half-le163.ensures ∙ w.if-comes_to-2.true) in
+          omega arith
+      | else-k-eq0+else-k-half-le163 w ↦ elim w.else-k-half-le163.branch [
+        | else-k-half-le163-via-then-k-half-le163+else-comes_to-2 v ↦
+            let h = leb-false middle count (sym v.comes_to-then-k-half-le163.ensures ∙ v.if-comes_to-2.false) in
+            omega arith
+        | else-k-half-le163-via-else-k-half-le163 v ↦ omega arith
+      ]
+    ]
 
 pub overflow_cast-result : goal.overflow_cast-result
 overflow_cast-result c = omega arith

@@ -1,11 +1,6 @@
 -- `quarter_turns`: the count lies from k on and below k + size; a test at the middle says in which half. Assumes nothing.
-use Prim.Native.Nat.{◌+◌, ◌/◌, ◌≤◌, ◌<◌}
-use native.Mathlib.Omega.{arith}
-use mathlib.Core.Path.{sym, ◌∙◌}
-use mathlib.Core.Logic.{⊎_elim}
-use borrow.Author.Tests.{leb-true, leb-false}
+use Prim.Native.Nat.{◌+◌, ◌≤◌, ◌<◌}
 use Rattle.planar.specs.Rotation.{quarter_turns}
-use Rattle.planar.proofs.Turns.{turns_le}
 use Rattle.planar.proofs.quarter_turns.Given as goal
 
 abbrev pub invariant-loop-size : goal.invariant-loop-size

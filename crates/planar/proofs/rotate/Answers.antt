@@ -1,7 +1,6 @@
 -- `rotate`: a refusal other than 0 gives its number and zeros, 0 the rotation. Assumes nothing.
 use mathlib.Core.Path.{◌≡◌, refl, sym, ◌∙◌}
 use Prim.Native.Nat.{ℕ, zero, suc}
-use borrow.Author.Rules.{rules}
 use Rattle.floats.specs.Floats.{zero32}
 use Rattle.planar.specs.declared.Rotation.{Rotation}
 use Rattle.planar.specs.Rotation.{rotation_at, rotated_by, rotated}

@@ -1,5 +1,4 @@
 -- `rotation_at`: the pieces, put together as the definition does; a count of at most 163 is exact in f32. Assumes nothing.
-use borrow.Author.Rules.{rules}
 use native.Mathlib.Omega.{arith}
 use lib.Dec.{le→leb}
 use lib.Ieee.{in_float}

@@ -1,5 +1,4 @@
 -- `rotation_refusal`: the same list of tests. Assumes nothing.
-use borrow.Author.Rules.{rules}
 use Rattle.planar.specs.Rotation.{rotation_refusal}
 use Rattle.planar.proofs.rotation_refusal.Goals as goal
 

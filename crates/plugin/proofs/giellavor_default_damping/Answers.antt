@@ -1,6 +1,5 @@
 -- `giellavor_default_damping`: the answer over three floats, with their bytes for the floats. Assumes nothing.
 use Rattle.plugin.proofs.Damping.{bytes_fit, count_fits, as_written, three_long}
-use borrow.Author.Rules.{rules}
 use Rattle.plugin.proofs.giellavor_default_damping.Goals as goal
 
 pub slice_bounds-write_row-end : goal.slice_bounds-write_row-end

@@ -1,8 +1,7 @@
-use Rattle.plugin.proofs.Rows.{Written, written_all, written_more, written_none}
+use Rattle.plugin.proofs.Rows.{written_all, written_more, written_none}
 use lib.ListN.{length}
-use Prim.Native.Nat.{◌-◌, ◌≤◌, ◌<◌}
+use Prim.Native.Nat.{◌<◌}
 use native.Mathlib.Omega.{arith}
-use borrow.Author.Rules.{rules}
 use Rattle.plugin.proofs.write_row.Goals as goal
 
 pub loop-i-init : goal.loop-i-init
@@ -15,8 +14,8 @@ loop-i-preserved c =
     let h = at.invariant.1.same_length in
     let more : at.i < length c.args.row.now = c.loop-i-test.true in (
       omega arith,
-      written_more c.args.row.now c.args.bytes.now at.i at.bytes at.invariant.1 more bits.result c.write_u32.result _
-          bits.ensures c.bytes-1.given (omega arith) c.write_u32.ensures,
+      written_more c.args.row.now c.args.bytes.now at.i at.bytes at.invariant.1 more bits.result c.write_u32.result c.write_u32.new.out
+          bits.ensures (omega arith) (omega arith) c.write_u32.ensures,
     )
 
 pub shape_of-bytes : goal.shape_of-bytes

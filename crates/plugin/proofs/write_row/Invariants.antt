@@ -1,9 +1,7 @@
 -- `write_row`: the floats passed are written. Assumes nothing.
-use Rattle.plugin.proofs.Rows.{Written, written_all, written_more, written_none}
+use Rattle.plugin.proofs.Rows.{Written}
 use lib.ListN.{length}
-use Prim.Native.Nat.{◌-◌, ◌≤◌, ◌<◌}
-use native.Mathlib.Omega.{arith}
-use borrow.Author.Rules.{rules}
+use Prim.Native.Nat.{◌-◌, ◌≤◌}
 use Rattle.plugin.proofs.write_row.Given as goal
 
 abbrev pub invariant-loop-i : goal.invariant-loop-i

@@ -1,8 +1,5 @@
-use Prim.Native.Nat.{◌≤◌}
 use mathlib.Core.Path.{◌≡◌, sym, ap, ◌∙◌}
 use native.Mathlib.Omega.{arith}
-use borrow.Author.Rules.{rules}
-use lib.ListN.{length, drop}
 use lib.Seq.{drop-length}
 use Rattle.refusal.specs.Refusal.{lower_of, lowest}
 use Rattle.refusal.proofs.Laws.{one_earlier}

@@ -1,12 +1,8 @@
 -- `lowest`: what it has so far is the lowest from the place it is at on, since it goes from the last to the first. Assumes nothing.
 use Prim.Native.Nat.{◌≤◌}
-use mathlib.Core.Path.{◌≡◌, sym, ap, ◌∙◌}
-use native.Mathlib.Omega.{arith}
-use borrow.Author.Rules.{rules}
+use mathlib.Core.Path.{◌≡◌}
 use lib.ListN.{length, drop}
-use lib.Seq.{drop-length}
-use Rattle.refusal.specs.Refusal.{lower_of, lowest}
-use Rattle.refusal.proofs.Laws.{one_earlier}
+use Rattle.refusal.specs.Refusal.{lowest}
 use Rattle.refusal.proofs.lowest.Given as goal
 
 abbrev pub invariant-loop-i : goal.invariant-loop-i

@@ -1,7 +1,6 @@
 -- `exchange`: past the end nothing changes; else each of the two places gets what the other held.
 use borrow.Author.Tests.{le-ltb, lt-ltb}
 use lib.ListN.{length}
-use borrow.Author.Rules.{rules}
 use Rattle.solve.proofs.exchange.Goals as goal
 
 pub returns-then-x-q : goal.returns-then-x-q

@@ -1,10 +1,6 @@
 use Rattle.solve.proofs.Substitution.{products_end, products_more}
-use Rattle.solve.specs.Solve.{less_products}
-use lib.ListN.{drop, length}
-use Prim.Native.Nat.{◌-◌, ◌≤◌}
-use mathlib.Core.Path.{◌∙◌, ◌≡◌, sym}
+use mathlib.Core.Path.{◌∙◌, sym}
 use native.Mathlib.Omega.{arith}
-use borrow.Author.Rules.{rules}
 use Rattle.solve.proofs.less_products.Goals as goal
 
 pub loop-j-preserved : goal.loop-j-preserved

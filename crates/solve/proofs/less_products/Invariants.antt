@@ -1,11 +1,8 @@
 -- `less_products`: what is taken away so far, with the products that are left, is the whole.
-use Rattle.solve.proofs.Substitution.{products_end, products_more}
 use Rattle.solve.specs.Solve.{less_products}
 use lib.ListN.{drop, length}
 use Prim.Native.Nat.{◌-◌, ◌≤◌}
-use mathlib.Core.Path.{◌∙◌, ◌≡◌, sym}
-use native.Mathlib.Omega.{arith}
-use borrow.Author.Rules.{rules}
+use mathlib.Core.Path.{◌≡◌}
 use Rattle.solve.proofs.less_products.Given as goal
 
 abbrev pub invariant-loop-j : goal.invariant-loop-j

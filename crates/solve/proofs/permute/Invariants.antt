@@ -1,11 +1,8 @@
 -- `permute`: the swaps made, then those that are left, are all swaps.
-use Rattle.solve.proofs.Substitution.{permuted_end, permuted_more}
 use Rattle.solve.specs.Solve.{permuted}
 use lib.ListN.{drop, length}
-use Prim.Native.Nat.{◌+◌, ◌-◌, ◌≤◌}
-use mathlib.Core.Path.{◌∙◌, ◌≡◌, ap, sym}
-use native.Mathlib.Omega.{arith}
-use borrow.Author.Rules.{rules}
+use Prim.Native.Nat.{◌-◌, ◌≤◌}
+use mathlib.Core.Path.{◌≡◌}
 use Rattle.solve.proofs.permute.Given as goal
 
 abbrev pub invariant-loop-k : goal.invariant-loop-k

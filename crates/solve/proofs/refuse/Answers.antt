@@ -4,7 +4,6 @@ use Prim.Native.Nat.{◌≤◌}
 use Rattle.limits.specs.Limits.{dof_limit}
 use Rattle.elimination.proofs.Rows.{square_mono}
 use Rattle.solve.proofs.Answers.{refusal_is}
-use borrow.Author.Rules.{rules}
 use Rattle.solve.proofs.refuse.Goals as goal
 
 pub overflow_mul-few : goal.overflow_mul-few

@@ -1,6 +1,5 @@
 -- `solve`: a refusal ends it; else the solve of any floats gives the solution.
 use mathlib.Core.Path.{◌∙◌}
-use borrow.Author.Rules.{rules}
 use Rattle.solve.proofs.Answers.{solve_on, solve_refused}
 use Rattle.solve.proofs.solve.Goals as goal
 

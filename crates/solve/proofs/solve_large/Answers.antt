@@ -1,6 +1,5 @@
 -- `solve_large`: its buffers have room for every n that isn't refused.
 use Rattle.solve.proofs.Answers.{buffer_room}
-use borrow.Author.Rules.{rules}
 use Rattle.solve.proofs.solve_large.Goals as goal
 
 pub solve_in-requires : goal.solve_in-requires

@@ -1,7 +1,6 @@
 -- `solve_small`: its buffers have room for n up to smallSize.
 use Rattle.solve.proofs.Answers.{buffer_room}
 use native.Mathlib.Omega.{arith}
-use borrow.Author.Rules.{rules}
 use Rattle.solve.proofs.solve_small.Goals as goal
 
 pub solve_in-requires : goal.solve_in-requires

@@ -1,8 +1,7 @@
-use Rattle.solve.proofs.Substitution.{backward_end, backward_more, row_before, row_end, same_parts}
-use Rattle.solve.specs.Solve.{backward}
+use Rattle.solve.proofs.Substitution.{backward_end, backward_more, row_before, row_within, same_parts}
 use lib.ListN.{length, length-set}
-use Prim.Native.Nat.{◌*◌, ◌+◌, ◌-◌, ◌<◌, ◌≤◌}
-use mathlib.Core.Path.{◌∙◌, ◌≡◌, sym}
+use Prim.Native.Nat.{◌+◌, ◌-◌, ◌<◌, ◌≤◌}
+use mathlib.Core.Path.{◌∙◌, sym}
 use native.Mathlib.Omega.{arith}
 use borrow.Author.Rules.{rules}
 use Rattle.solve.proofs.substitute_backward.Goals as goal
@@ -14,79 +13,58 @@ overflow_mul-end c =
 
 pub overflow_sub-at : goal.overflow_sub-at
 overflow_sub-at c =
-    let row_in : (c.args.n ≤ c.loop-i.end) × (c.loop-i.end ≤ length c.args.factors.now) =     let l = c.loop-i in
-    let h = row_end c.loop-i-test.true l.invariant.0 in
-    (omega arith, omega arith) in
+    let row_in = row_within c.loop-i-test.true c.loop-i.invariant.0 c.loop-i.invariant.2 c.requires.0 in
     row_in.0
 
 pub overflow_add-at : goal.overflow_add-at
 overflow_add-at c =
-    let row_in : (c.args.n ≤ c.loop-i.end) × (c.loop-i.end ≤ length c.args.factors.now) =     let l = c.loop-i in
-    let h = row_end c.loop-i-test.true l.invariant.0 in
-    (omega arith, omega arith) in
+    let row_in = row_within c.loop-i-test.true c.loop-i.invariant.0 c.loop-i.invariant.2 c.requires.0 in
     omega (arith, row_in)
 
 pub offset_bounds-factors-at : goal.offset_bounds-factors-at
 offset_bounds-factors-at c =
-    let row_in : (c.args.n ≤ c.loop-i.end) × (c.loop-i.end ≤ length c.args.factors.now) =     let l = c.loop-i in
-    let h = row_end c.loop-i-test.true l.invariant.0 in
-    (omega arith, omega arith) in
+    let row_in = row_within c.loop-i-test.true c.loop-i.invariant.0 c.loop-i.invariant.2 c.requires.0 in
     let l = c.loop-i in
     let g : (l.end - c.args.n) + l.i ≤ length c.args.factors.now = omega (arith, row_in) in
     search rules
 
 pub slice_bounds-less_products-count : goal.slice_bounds-less_products-count
 slice_bounds-less_products-count c =
-    let row_in : (c.args.n ≤ c.loop-i.end) × (c.loop-i.end ≤ length c.args.factors.now) =     let l = c.loop-i in
-    let h = row_end c.loop-i-test.true l.invariant.0 in
-    (omega arith, omega arith) in
+    let row_in = row_within c.loop-i-test.true c.loop-i.invariant.0 c.loop-i.invariant.2 c.requires.0 in
     omega (arith, row_in)
 
 pub slice_bounds-less_products-start : goal.slice_bounds-less_products-start
 slice_bounds-less_products-start c =
-    let row_in : (c.args.n ≤ c.loop-i.end) × (c.loop-i.end ≤ length c.args.factors.now) =     let l = c.loop-i in
-    let h = row_end c.loop-i-test.true l.invariant.0 in
-    (omega arith, omega arith) in
+    let row_in = row_within c.loop-i-test.true c.loop-i.invariant.0 c.loop-i.invariant.2 c.requires.0 in
     omega (arith, row_in)
 
 pub slice_bounds-less_products-end : goal.slice_bounds-less_products-end
 slice_bounds-less_products-end c =
-    let row_in : (c.args.n ≤ c.loop-i.end) × (c.loop-i.end ≤ length c.args.factors.now) =     let l = c.loop-i in
-    let h = row_end c.loop-i-test.true l.invariant.0 in
-    (omega arith, omega arith) in
+    let row_in = row_within c.loop-i-test.true c.loop-i.invariant.0 c.loop-i.invariant.2 c.requires.0 in
     row_in.1
 
 pub less_products-value-requires : goal.less_products-value-requires
 less_products-value-requires c =
-    let row_in : (c.args.n ≤ c.loop-i.end) × (c.loop-i.end ≤ length c.args.factors.now) =     let l = c.loop-i in
-    let h = row_end c.loop-i-test.true l.invariant.0 in
-    (omega arith, omega arith) in
+    let row_in = row_within c.loop-i-test.true c.loop-i.invariant.0 c.loop-i.invariant.2 c.requires.0 in
     let l = c.loop-i in
     let at = (l.end - c.args.n) + l.i in
-    let h = row_in in
     same_parts (l.end - at) at (c.args.n - l.i) l.i c.args.factors.now l.x (omega arith) (omega arith) (omega arith)
 
 pub overflow_add-x : goal.overflow_add-x
 overflow_add-x c =
-    let row_in : (c.args.n ≤ c.loop-i.end) × (c.loop-i.end ≤ length c.args.factors.now) =     let l = c.loop-i in
-    let h = row_end c.loop-i-test.true l.invariant.0 in
-    (omega arith, omega arith) in
+    let row_in = row_within c.loop-i-test.true c.loop-i.invariant.0 c.loop-i.invariant.2 c.requires.0 in
     omega (arith, row_in)
 
 pub offset_bounds-factors-at-in-loop-i : goal.offset_bounds-factors-at-in-loop-i
 offset_bounds-factors-at-in-loop-i c =
-    let row_in : (c.args.n ≤ c.loop-i.end) × (c.loop-i.end ≤ length c.args.factors.now) =     let l = c.loop-i in
-    let h = row_end c.loop-i-test.true l.invariant.0 in
-    (omega arith, omega arith) in
+    let row_in = row_within c.loop-i-test.true c.loop-i.invariant.0 c.loop-i.invariant.2 c.requires.0 in
     let l = c.loop-i in
     let g : (l.end - c.args.n) + (l.i - 1) < length c.args.factors.now = omega (arith, row_in) in
     search rules
 
 pub bounds-factors-at : goal.bounds-factors-at
 bounds-factors-at c =
-    let row_in : (c.args.n ≤ c.loop-i.end) × (c.loop-i.end ≤ length c.args.factors.now) =     let l = c.loop-i in
-    let h = row_end c.loop-i-test.true l.invariant.0 in
-    (omega arith, omega arith) in
+    let row_in = row_within c.loop-i-test.true c.loop-i.invariant.0 c.loop-i.invariant.2 c.requires.0 in
     omega (arith, row_in)
 
 pub loop-i-preserved : goal.loop-i-preserved

@@ -1,11 +1,8 @@
 -- `substitute_backward`: the places done, then those that are left, are all; row i - 1 ends at `end`.
-use Rattle.solve.proofs.Substitution.{backward_end, backward_more, row_before, row_end, same_parts}
 use Rattle.solve.specs.Solve.{backward}
-use lib.ListN.{length, length-set}
-use Prim.Native.Nat.{◌*◌, ◌+◌, ◌-◌, ◌<◌, ◌≤◌}
-use mathlib.Core.Path.{◌∙◌, ◌≡◌, sym}
-use native.Mathlib.Omega.{arith}
-use borrow.Author.Rules.{rules}
+use lib.ListN.{length}
+use Prim.Native.Nat.{◌*◌, ◌≤◌}
+use mathlib.Core.Path.{◌≡◌}
 use Rattle.solve.proofs.substitute_backward.Given as goal
 
 abbrev pub invariant-loop-i : goal.invariant-loop-i

@@ -2,8 +2,8 @@ use Rattle.solve.proofs.Substitution.{forward_end, forward_more, same_parts}
 use Rattle.solve.specs.Solve.{forward}
 use lib.ListN.{length, length-set}
 use native.Mathlib.Nat.{sub-zero}
-use Prim.Native.Nat.{◌*◌, ◌+◌, ◌-◌, ◌<◌, ◌≤◌, ℕ}
-use mathlib.Core.Path.{◌∙◌, ◌≡◌, ap, sym}
+use Prim.Native.Nat.{◌+◌, ◌-◌, ◌<◌, ℕ}
+use mathlib.Core.Path.{◌∙◌, ap, sym}
 use native.Mathlib.Omega.{arith}
 use borrow.Author.Rules.{rules}
 use Rattle.elimination.proofs.Rows.{next, inside}

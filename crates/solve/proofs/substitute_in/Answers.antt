@@ -1,6 +1,5 @@
 -- `substitute_in`: the test of the unknowns is that of all values, and the copy leaves the result past n.
 use mathlib.Core.Path.{◌∙◌}
-use borrow.Author.Rules.{rules}
 use Rattle.solve.proofs.Answers.{unknowns_good, unknowns_wild}
 use Rattle.solve.proofs.substitute_in.Goals as goal
 
@@ -11,7 +10,7 @@ returns-then-refusal-eq0 c =
     let f = c.all_finite in
     let w = c.copy in
     unknowns_good c.args.n c.args.factors.now c.args.swaps.now c.args.right.now y.new.x c.args.res.now y.ensures
-    f.result f.ensures k.result k.ensures c.if-refusal-eq0.true (c.x-1.given ∙ c.requires.3) c.requires.4 w.new.to w.ensures
+    f.result f.ensures k.result k.ensures c.if-refusal-eq0.true (c.unknowns.auto.x ∙ c.requires.3) c.requires.4 w.new.to w.ensures
 
 pub returns-else-refusal-eq0 : goal.returns-else-refusal-eq0
 returns-else-refusal-eq0 c =

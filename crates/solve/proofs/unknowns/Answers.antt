@@ -1,6 +1,5 @@
 -- `unknowns`: the right side copied, then each step of the substitution by what its function says.
 use mathlib.Core.Path.{◌∙◌, sym}
-use borrow.Author.Rules.{rules}
 use Rattle.floats.proofs.Rows.{overlaid_whole}
 use Rattle.solve.proofs.unknowns.Goals as goal
 

@@ -1,15 +1,13 @@
-use Rattle.lists.proofs.Numbers.{Filled, filled_at, filled_more, filled_none}
+use Rattle.lists.proofs.Numbers.{filled_at, filled_more, filled_none}
 use Rattle.topology.proofs.Branch.{mark_alone, mark_more, marks_full}
 use mathlib.Core.Bool.{false}
 use Rattle.limits.specs.Limits.{link_limit}
-use mathlib.Core.Logic.{⊎_elim}
-use Rattle.topology.specs.Parents.{at_or_below, marks, parent_in}
-use lib.ListN.{length, replicate}
-use Prim.Native.Nat.{min, ◌-◌, ◌≤◌}
-use mathlib.Core.Path.{◌≡◌, sym}
+use Rattle.topology.specs.Parents.{at_or_below, parent_in}
+use lib.ListN.{replicate}
+use mathlib.Core.Path.{sym}
 use native.Mathlib.Omega.{arith}
-use borrow.Author.Rules.{rules}
 use Rattle.topology.proofs.at_or_below.Goals as goal
+use Rattle.topology.proofs.at_or_below.Goals.{then-p-j, else-p-j}
 
 pub loop-j-init : goal.loop-j-init
 loop-j-init c = (c.fewer-n.ensures, omega arith, filled_none (at_or_below c.args.parents.now c.args.link) (replicate link_limit false))
@@ -27,10 +25,10 @@ loop-j-preserved c =
     let more = filled_more f (replicate link_limit false) j c.loop-j.marks in (
       c.loop-j.invariant.0,
       omega arith,
-      ⊎_elim
-          (λ w. rw w.1 (more _ (omega arith) t (rw (filled_at f (replicate link_limit false) j c.loop-j.marks (parent_in ps j) false t w.0.taken) (sym (mark_more ps i j (omega arith) w.0.taken)))))
-          (λ w. rw w.1 (more _ (omega arith) t (sym (mark_alone ps i j (omega arith) w.0.left))))
-          c.if-p-j.branch,
+      elim c.if-p-j.branch [
+        | then-p-j w ↦ rw w.marks-is (more _ (omega arith) t (rw (filled_at f (replicate link_limit false) j c.loop-j.marks (parent_in ps j) false t w.if-p-j.true) (sym (mark_more ps i j (omega arith) w.if-p-j.true))))
+        | else-p-j w ↦ rw w.marks-is (more _ (omega arith) t (sym (mark_alone ps i j (omega arith) w.if-p-j.false)))
+      ],
     )
 
 pub returns : goal.returns

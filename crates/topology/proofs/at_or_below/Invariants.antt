@@ -1,15 +1,11 @@
 -- `at_or_below`: the marks so far are right, and the rest is as made: false. Assumes nothing.
-use Rattle.lists.proofs.Numbers.{Filled, filled_at, filled_more, filled_none}
-use Rattle.topology.proofs.Branch.{mark_alone, mark_more, marks_full}
+use Rattle.lists.proofs.Numbers.{Filled}
 use mathlib.Core.Bool.{false}
 use Rattle.limits.specs.Limits.{link_limit}
-use mathlib.Core.Logic.{⊎_elim}
-use Rattle.topology.specs.Parents.{at_or_below, marks, parent_in}
+use Rattle.topology.specs.Parents.{at_or_below}
 use lib.ListN.{length, replicate}
 use Prim.Native.Nat.{min, ◌-◌, ◌≤◌}
-use mathlib.Core.Path.{◌≡◌, sym}
-use native.Mathlib.Omega.{arith}
-use borrow.Author.Rules.{rules}
+use mathlib.Core.Path.{◌≡◌}
 use Rattle.topology.proofs.at_or_below.Given as goal
 
 abbrev pub invariant-loop-j : goal.invariant-loop-j

@@ -1,10 +1,9 @@
 use Rattle.topology.proofs.Branch.{branch_alone, branch_longer, branch_none}
-use Rattle.topology.specs.Parents.{branch, parent_in}
+use Rattle.topology.specs.Parents.{branch}
 use lib.ListN.{length}
-use Prim.Native.Nat.{◌+◌, ◌<◌, ◌≤◌, ℕ}
-use mathlib.Core.Path.{◌≡◌, ap, refl}
+use Prim.Native.Nat.{ℕ}
+use mathlib.Core.Path.{ap, refl}
 use native.Mathlib.Omega.{arith}
-use borrow.Author.Rules.{rules}
 use Rattle.topology.proofs.branch_length.Goals as goal
 
 pub returns-then-parents-link : goal.returns-then-parents-link

@@ -1,11 +1,8 @@
 -- `branch_length`: the links left behind on the way up, with the branch of the link reached, are the branch. Assumes nothing.
-use Rattle.topology.proofs.Branch.{branch_alone, branch_longer, branch_none}
 use Rattle.topology.specs.Parents.{branch, parent_in}
 use lib.ListN.{length}
-use Prim.Native.Nat.{◌+◌, ◌<◌, ◌≤◌, ℕ}
-use mathlib.Core.Path.{◌≡◌, ap, refl}
-use native.Mathlib.Omega.{arith}
-use borrow.Author.Rules.{rules}
+use Prim.Native.Nat.{◌+◌, ◌<◌, ◌≤◌}
+use mathlib.Core.Path.{◌≡◌}
 use Rattle.topology.proofs.branch_length.Given as goal
 
 abbrev pub invariant-loop-p : goal.invariant-loop-p

@@ -1,5 +1,4 @@
 -- `is_head`: by the case of the split. Assumes nothing.
-use borrow.Author.Rules.{rules}
 use Rattle.topology.proofs.is_head.Goals as goal
 
 pub returns-in-Delete : goal.returns-in-Delete

@@ -1,5 +1,4 @@
 -- `is_survivor`: by the case of the split. Assumes nothing.
-use borrow.Author.Rules.{rules}
 use Rattle.topology.proofs.is_survivor.Goals as goal
 
 pub returns-in-Delete : goal.returns-in-Delete

@@ -1,7 +1,6 @@
 -- `kinematic_branch`: refused as defined, or the branch is written. Assumes nothing.
 use Rattle.topology.proofs.Refused.{accepted, branch_done, branch_refused}
 use borrow.Author.Tests.{leb-true}
-use borrow.Author.Rules.{rules}
 use Rattle.topology.proofs.kinematic_branch.Goals as goal
 
 pub returns-then-refusal-ne0 : goal.returns-then-refusal-ne0
@@ -10,7 +9,11 @@ returns-then-refusal-ne0 c = branch_refused c.args.parents.now c.args.link c.arg
 pub write_branch-requires : goal.write_branch-requires
 write_branch-requires c =
     let a = accepted c.args.parents.now c.args.link _ c.refusal_of-refusal.result c.refusal_of-refusal.ensures c.if-refusal-ne0.false in
-    (a.few, (c.branch_length-n.ensures, leb-true _ _ a.room))
+    record {
+      parents_len_bound = a.few;
+      n_value = c.branch_length-n.ensures;
+      n_in_bounds = leb-true _ _ a.room;
+    }
 
 pub returns : goal.returns
 returns c = branch_done c.args.parents.now c.args.link c.args.to.now c.branch_length-n.result c.refusal_of-refusal.result c.branch_length-n.ensures c.refusal_of-refusal.ensures c.if-refusal-ne0.false _ c.write_branch.ensures

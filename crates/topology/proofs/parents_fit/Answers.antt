@@ -1,9 +1,5 @@
-use Rattle.topology.proofs.Fitting.{fit_all, fit_more, fit_none, fit_to}
-use lib.ListN.{length}
-use Prim.Native.Nat.{◌-◌, ◌≤◌}
-use mathlib.Core.Path.{◌≡◌}
+use Rattle.topology.proofs.Fitting.{fit_all, fit_more, fit_none}
 use native.Mathlib.Omega.{arith}
-use borrow.Author.Rules.{rules}
 use Rattle.topology.proofs.parents_fit.Goals as goal
 
 pub loop-j-init : goal.loop-j-init

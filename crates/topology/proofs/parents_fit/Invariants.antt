@@ -1,10 +1,8 @@
 -- `parents_fit`: the links tested so far fit. Assumes nothing.
-use Rattle.topology.proofs.Fitting.{fit_all, fit_more, fit_none, fit_to}
+use Rattle.topology.proofs.Fitting.{fit_to}
 use lib.ListN.{length}
 use Prim.Native.Nat.{◌-◌, ◌≤◌}
 use mathlib.Core.Path.{◌≡◌}
-use native.Mathlib.Omega.{arith}
-use borrow.Author.Rules.{rules}
 use Rattle.topology.proofs.parents_fit.Given as goal
 
 abbrev pub invariant-loop-j : goal.invariant-loop-j

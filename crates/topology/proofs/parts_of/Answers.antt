@@ -1,14 +1,13 @@
 use mathlib.Core.List.{List}
 use Rattle.topology.specs.Split.{is_head}
 use mathlib.Core.Path.{◌∙◌, sym}
-use Rattle.topology.proofs.Pass.{Passed, passed_none, rank_le, parent_earlier, passed_body, passed_gone, passed_head, passed_all}
+use Rattle.topology.proofs.Pass.{passed_none, rank_le, parent_earlier, passed_body, passed_gone, passed_head, passed_all}
 use lib.ListN.{length, replicate}
-use Prim.Native.Nat.{◌-◌, ◌≤◌, ◌<◌, ℕ}
-use mathlib.Core.Logic.{⊎_elim}
+use Prim.Native.Nat.{◌<◌, ℕ}
 use native.Mathlib.Omega.{arith}
 use Rattle.limits.specs.Limits.{link_limit}
-use borrow.Author.Rules.{rules}
 use Rattle.topology.proofs.parts_of.Goals as goal
+use Rattle.topology.proofs.parts_of.Goals.{then-is_head, else-is_head+then-is_survivor, else-is_head+else-is_survivor}
 
 pub loop-j-init : goal.loop-j-init
 loop-j-init c = (omega arith, passed_none c.args.parents.now c.args.s (replicate link_limit 0))
@@ -17,10 +16,10 @@ pub overflow_cast-p : goal.overflow_cast-p
 overflow_cast-p c = omega (arith, c.type_inv.parents c.loop-j.j)
 
 pub overflow_cast-of : goal.overflow_cast-of
-overflow_cast-of c = omega (arith, rank_le c.args.parents.now c.args.s c.loop-j.j, c.loop-j.invariant.1.counted, c.requires.0)
+overflow_cast-of c = omega (arith, rank_le c.args.parents.now c.args.s c.loop-j.j, c.loop-j.invariant.1.counted, c.requires.parents_len_bound)
 
 pub bounds-of-j : goal.bounds-of-j
-bounds-of-j c = omega (arith, c.requires.0)
+bounds-of-j c = omega (arith, c.requires.parents_len_bound)
 
 pub overflow_add-count : goal.overflow_add-count
 overflow_add-count c = omega (arith, rank_le c.args.parents.now c.args.s c.loop-j.j, c.loop-j.invariant.1.counted)
@@ -31,13 +30,13 @@ bounds-of-p c =
     let e = sym c.is_head.ensures ∙ c.if-is_head.false in
     let a = sym c.is_survivor.ensures ∙ c.if-is_survivor.true in
     let pre = c.requires in
-    omega (arith, parent_earlier c.args.parents.now c.args.s pre.1 c.loop-j.j (omega arith) a e, pre.0)
+    omega (arith, parent_earlier c.args.parents.now c.args.s pre.parents_value c.loop-j.j (omega arith) a e, pre.parents_len_bound)
 
 pub bounds-of-j-then-is_survivor : goal.bounds-of-j-then-is_survivor
-bounds-of-j-then-is_survivor c = omega (arith, c.requires.0)
+bounds-of-j-then-is_survivor c = omega (arith, c.requires.parents_len_bound)
 
 pub bounds-of-j-else-is_survivor : goal.bounds-of-j-else-is_survivor
-bounds-of-j-else-is_survivor c = omega (arith, c.requires.0)
+bounds-of-j-else-is_survivor c = omega (arith, c.requires.parents_len_bound)
 
 pub loop-j-preserved : goal.loop-j-preserved
 unfolding is_head
@@ -52,12 +51,11 @@ loop-j-preserved c =
     let t = c.loop-j.invariant.1 in
     let head = c.is_head.ensures in (
       omega arith,
-      ⊎_elim
-          (λ w. rw (w.1, w.2) (passed_head ps s z c.requires.0 j h of n t (sym head ∙ w.0.taken)))
-          (⊎_elim
-          (λ w. rw (w.3, w.4) (passed_body ps s z c.requires.0 j h of n t c.requires.1 (sym head ∙ w.0.left) (sym w.1.ensures ∙ w.2.taken)))
-          (λ w. rw (w.3, w.4) (passed_gone ps s z c.requires.0 j h of n t (sym head ∙ w.0.left) (sym w.1.ensures ∙ w.2.left))))
-          c.if-is_head.branch,
+      elim c.if-is_head.branch [
+        | then-is_head w ↦ rw (w.of-is, w.count-is) (passed_head ps s z c.requires.parents_len_bound j h of n t (sym head ∙ w.if-is_head.true))
+        | else-is_head+then-is_survivor w ↦ rw (w.of-is, w.count-is) (passed_body ps s z c.requires.parents_len_bound j h of n t c.requires.parents_value (sym head ∙ w.if-is_head.false) (sym w.is_survivor.ensures ∙ w.if-is_survivor.true))
+        | else-is_head+else-is_survivor w ↦ rw (w.of-is, w.count-is) (passed_gone ps s z c.requires.parents_len_bound j h of n t (sym head ∙ w.if-is_head.false) (sym w.is_survivor.ensures ∙ w.if-is_survivor.false))
+      ],
     )
 
 pub returns : goal.returns

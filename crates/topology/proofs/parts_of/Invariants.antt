@@ -1,14 +1,8 @@
 -- `parts_of`: the links passed have their parts, and the heads among them are counted. Assumes nothing.
-use mathlib.Core.List.{List}
-use Rattle.topology.specs.Split.{is_head}
-use mathlib.Core.Path.{◌∙◌, sym}
-use Rattle.topology.proofs.Pass.{Passed, passed_none, rank_le, parent_earlier, passed_body, passed_gone, passed_head, passed_all}
+use Rattle.topology.proofs.Pass.{Passed}
 use lib.ListN.{length, replicate}
-use Prim.Native.Nat.{◌-◌, ◌≤◌, ◌<◌, ℕ}
-use mathlib.Core.Logic.{⊎_elim}
-use native.Mathlib.Omega.{arith}
+use Prim.Native.Nat.{◌-◌, ◌≤◌}
 use Rattle.limits.specs.Limits.{link_limit}
-use borrow.Author.Rules.{rules}
 use Rattle.topology.proofs.parts_of.Given as goal
 
 abbrev pub invariant-loop-j : goal.invariant-loop-j

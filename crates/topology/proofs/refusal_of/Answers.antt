@@ -1,6 +1,5 @@
 -- `refusal_of`: the lowest of four. Assumes nothing.
 use Rattle.topology.specs.Answers.{refusal_of}
-use borrow.Author.Rules.{rules}
 use Rattle.topology.proofs.refusal_of.Goals as goal
 
 pub returns : goal.returns

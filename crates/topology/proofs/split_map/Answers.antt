@@ -7,7 +7,6 @@ use Prim.Native.Nat.{◌*◌, ℕ}
 use mathlib.Core.List.{List, ◌++◌}
 use mathlib.Core.Path.{◌∙◌, ap}
 use native.Mathlib.Omega.{arith}
-use borrow.Author.Rules.{rules}
 use Rattle.topology.proofs.split_map.Goals as goal
 
 pub returns-then-refusal-ne0 : goal.returns-then-refusal-ne0
@@ -16,12 +15,12 @@ returns-then-refusal-ne0 c = split_refused c.args.parents.now c.args.s c.args.ma
 pub parts_of-parts-requires : goal.parts_of-parts-requires
 parts_of-parts-requires c =
     let a = split_accepted c.args.parents.now c.args.s c.args.map.now c.link_of.result c.refusal_of-refusal.result c.link_of.ensures c.refusal_of-refusal.ensures c.if-refusal-ne0.false in
-    (a.few, a.fit)
+    record { parents_len_bound = a.few; parents_value = a.fit }
 
 pub write_map-requires : goal.write_map-requires
 write_map-requires c =
     let a = split_accepted c.args.parents.now c.args.s c.args.map.now c.link_of.result c.refusal_of-refusal.result c.link_of.ensures c.refusal_of-refusal.ensures c.if-refusal-ne0.false in
-    (a.few, leb-true _ _ a.room)
+    record { n_le_link_limit = a.few; n_in_bounds = leb-true _ _ a.room }
 
 pub returns : goal.returns
 returns c =

@@ -1,9 +1,6 @@
 -- `write_branch`: what stands behind place `at` is the branch's end, and the branch of the next link fits before it. Assumes nothing.
-use Rattle.topology.proofs.Written.{Written, written_more, written_none, written_all}
+use Rattle.topology.proofs.Written.{Written}
 use Rattle.topology.specs.Parents.{branch}
-use Prim.Native.Nat.{◌-◌}
-use native.Mathlib.Omega.{arith}
-use borrow.Author.Rules.{rules}
 use Rattle.topology.proofs.write_branch.Given as goal
 
 abbrev pub invariant-loop-at : goal.invariant-loop-at

@@ -6,4 +6,4 @@ use Rattle.whole_step.proofs.step_arm.Goals as goal
 
 pub returns : goal.returns
 returns c =
-    c.with_links.ensures ∙ stepped c.args.t1 _ _ _ c.row_number-at.ensures c.step_links.ensures
+    c.with_links.ensures ∙ stepped c.args.arm _ _ _ c.row_number-at.ensures c.step_links.ensures

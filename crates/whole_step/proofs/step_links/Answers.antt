@@ -10,7 +10,7 @@ use Rattle.whole_step.proofs.step_links.Goals as goal
 pub loop-i-init : goal.loop-i-init
 loop-i-init c =
     let own = c.args in
-    held_none own.arm.links _ _ _ (omega arith) (links_length own.arm c.well-formed.0)
+    held_none own.arm.links _ _ _ (omega arith) (links_length own.arm c.well_formed.0)
 
 pub offset_bounds-row-start : goal.offset_bounds-row-start
 offset_bounds-row-start c = omega (arith, start_small _ _ _ _ _ _ _ c.loop-i.invariant)

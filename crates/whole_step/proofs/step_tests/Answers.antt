@@ -28,7 +28,7 @@ loop-i-init c = (c.live_links-n.ensures, omega arith, refl, refl)
 
 pub loop-i-preserved : goal.loop-i-preserved
 loop-i-preserved c =
-    let a = c.args.t1 in
+    let a = c.args.arm in
     let k = c.loop-i in
     let w = links_length a c.well_formed.0 in
     let fits : c.live_links-n.result ≤ length a.links = omega arith in (
@@ -40,6 +40,6 @@ loop-i-preserved c =
 
 pub returns : goal.returns
 returns c =
-    let a = c.args.t1 in
+    let a = c.args.arm in
     let k = c.loop-i in
-    ended a (links_length a c.well-formed.0) _ k.i k.angles k.floats k.invariant.0 (omega arith) k.invariant.2 k.invariant.3
+    ended a (links_length a c.well_formed.0) _ k.i k.angles k.floats k.invariant.0 (omega arith) k.invariant.2 k.invariant.3
