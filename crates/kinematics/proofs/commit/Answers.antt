@@ -10,6 +10,7 @@ use Rattle.limits.specs.Limits.{block_size}
 use Rattle.floats.proofs.Parts.{copied_fits}
 use borrow.Author.Rules.{rules}
 use Rattle.kinematics.proofs.commit.Goals as goal
+use Rattle.kinematics.proofs.commit.Goals.{then-marks-j, else-marks-j}
 
 pub loop-j-init : goal.loop-j-init
 loop-j-init c =
@@ -24,11 +25,11 @@ loop-j-preserved c =
     let t = c.args.tables.now in
     let at = turn.j * block_size in
     let h : turn.j + 1 ≤ c.args.n = omega arith in
-    let copied = copied_fits at at block_size turn.tables work (omega (arith, c.requires, turn.invariant.1, h)) (omega (arith, c.requires, h)) in
-    ⊎_elim
-    (λ w. (h, ap length w.5 ∙ w.3.given ∙ turn.invariant.1, w.5 ∙ w.2.ensures ∙ copied ∙ laid_more b (blocks_of work) turn.j t turn.tables turn.invariant.2 w.0.taken _ refl))
-    (λ w. (h, ap length w.1 ∙ turn.invariant.1, w.1 ∙ laid_skip b (blocks_of work) turn.j t turn.tables turn.invariant.2 w.0.left))
-    c.if-marks-j.branch
+    let copied = copied_fits at at block_size turn.tables work (omega arith) (omega arith) in
+    elim c.if-marks-j.branch [
+      | then-marks-j w ↦ (h, ap length w.tables-is ∙ w.copy_part.auto.to ∙ turn.invariant.1, w.tables-is ∙ w.copy_part.ensures ∙ copied ∙ laid_more b (blocks_of work) turn.j t turn.tables turn.invariant.2 w.if-marks-j.true _ refl)
+      | else-marks-j w ↦ (h, ap length w.tables-is ∙ turn.invariant.1, w.tables-is ∙ laid_skip b (blocks_of work) turn.j t turn.tables turn.invariant.2 w.if-marks-j.false)
+    ]
 
 pub returns : goal.returns
 returns c =

@@ -9,15 +9,11 @@ use Rattle.limits.specs.Limits.{table_size}
 use borrow.Author.Rules.{rules}
 use Rattle.kinematics.proofs.refresh_marked.Goals as goal
 
--- ---- places, each from a later one
-
--- ---- the answers
-
 pub returns-then-tables-lt-TABLES : goal.returns-then-tables-lt-TABLES
 returns-then-tables-lt-TABLES c = let own = c.args in marked_short own.links own.n own.tables.now (marked own.marks) c.if-tables-lt-TABLES.true
 
 pub work_out-r-requires : goal.work_out-r-requires
-work_out-r-requires c = (omega (arith, c.fewer-count.ensures), (omega (arith, c.if-tables-lt-TABLES.false), length-replicate table_size zero32))
+work_out-r-requires c = record { n_le_link_limit = omega (arith, c.fewer-count.ensures); table_size_in_bounds = omega (arith, c.if-tables-lt-TABLES.false); work_len = length-replicate table_size zero32 }
 
 pub returns-then-not-r : goal.returns-then-not-r
 returns-then-not-r c =
@@ -27,7 +23,7 @@ returns-then-not-r c =
 
 pub commit-requires : goal.commit-requires
 commit-requires c =
-    (omega (arith, c.fewer-count.ensures), (search rules, omega (arith, c.if-tables-lt-TABLES.false)))
+    record { n_le_link_limit = omega (arith, c.fewer-count.ensures); work_len = search rules; table_size_in_bounds = omega (arith, c.if-tables-lt-TABLES.false) }
 
 pub returns : goal.returns
 returns c =
