@@ -1,7 +1,6 @@
 -- `add_coupling`: an accepted coupling has a place, and its numbers are bytes; a refusal returns the arm. Assumes nothing.
 use mathlib.Core.Path.{◌∙◌, refl, sym}
 use native.Mathlib.Omega.{arith}
-use borrow.Author.Rules.{rules}
 use Rattle.arm.proofs.Edits.{edited_none, edited_some}
 use Rattle.arm_edits.specs.Couplings.{coupling_added, with_coupling}
 use Rattle.arm_edits.proofs.Accepted.{Coupling-fits, coupling_fits}

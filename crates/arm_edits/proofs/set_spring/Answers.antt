@@ -2,7 +2,6 @@
 use Prim.Native.Nat.{◌<◌}
 use mathlib.Core.Path.{◌≡◌, ◌∙◌, sym}
 use native.Mathlib.Omega.{arith}
-use borrow.Author.Rules.{rules}
 use Rattle.arm.specs.Arm.{live_links}
 use Rattle.arm.proofs.Accepted.{live}
 use Rattle.arm.proofs.Edits.{edited_none, edited_some}
