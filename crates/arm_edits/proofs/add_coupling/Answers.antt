@@ -6,8 +6,6 @@ use Rattle.arm_edits.specs.Couplings.{coupling_added, with_coupling}
 use Rattle.arm_edits.proofs.Accepted.{Coupling-fits, coupling_fits}
 use Rattle.arm_edits.proofs.add_coupling.Goals as goal
 
--- what an accepted coupling fits
-
 pub returns-then-refusal-ne0 : goal.returns-then-refusal-ne0
 unfolding coupling_added
 returns-then-refusal-ne0 c = edited_some _ _ _ _ c.coupling_refusal-refusal.ensures c.if-refusal-ne0.true

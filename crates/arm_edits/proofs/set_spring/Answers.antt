@@ -10,8 +10,6 @@ use Rattle.arm_edits.proofs.Accepted.{set_spring_there}
 use Rattle.arm_edits.proofs.Stores.{spring_stored}
 use Rattle.arm_edits.proofs.set_spring.Goals as goal
 
--- ---- seen from where the call is accepted
-
 pub returns-then-refusal-ne0 : goal.returns-then-refusal-ne0
 unfolding arm_spring_set
 returns-then-refusal-ne0 c = edited_some _ _ _ _ c.spring_refusal-refusal.ensures c.if-refusal-ne0.true

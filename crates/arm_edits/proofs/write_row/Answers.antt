@@ -33,10 +33,6 @@ unfolding dof_among dof_at start_at mask_at
 place a w h e link axis =
     ap (λ (ms : List ℕ). dof_among ms link axis) (found_masks a w h e)
 
--- ---- seen from where the write is accepted
-
--- ---- seen from where the entry's place was found
-
 pub offset_bounds-new-k : goal.offset_bounds-new-k
 offset_bounds-new-k c =
     omega (arith, c.row_number-k.ensures, row-there c.args.name)
