@@ -1,16 +1,12 @@
 -- `add_link`: a refusal, or the new link worked out. Assumes nothing.
-use Prim.Native.Nat.{◌+◌, ◌≤◌}
 use mathlib.Core.Path.{◌∙◌, refl, sym}
 use native.Mathlib.Omega.{arith}
 use borrow.Author.Tests.{not-false, not-true}
-use Rattle.limits.specs.Limits.{dof_limit}
 use Rattle.arm.proofs.Shape.{links_length}
 use Rattle.full_working.proofs.Refused.{refused}
-use Rattle.addition.specs.Inner.{Small}
 use Rattle.addition.specs.Addition.{link_added}
 use Rattle.addition.proofs.Placed.{Ends, ends, start_fits}
-use Rattle.addition.proofs.Tests.{Passed, passed, small}
-use borrow.Author.Rules.{rules}
+use Rattle.addition.proofs.Tests.{passed, small}
 use Rattle.addition.proofs.add_link.Goals as goal
 
 pub returns-then-refusal-ne0 : goal.returns-then-refusal-ne0
@@ -29,9 +25,9 @@ bounds-links-p c = omega (arith, (passed c.args.arm c.args.tables.now c.args.new
 pub returns-then-not-t : goal.returns-then-not-t
 returns-then-not-t c =
     let ended : Ends c.args.arm c.args.tables.now c.args.new c.start_among-start.result c.refresh_one-t.result c.refresh_one-t.new.tables =
-        ends c.args.arm (links_length c.args.arm c.well_formed.0) c.args.tables.now c.args.new _ c.add_refusal-refusal.ensures c.if-refusal-ne0.false
-        c.handed_in-handed.result c.handed_in-handed.ensures c.start_among-start.result c.start_among-start.ensures c.link_of-link.result _ _ c.link_of-link.ensures
-        c.fewer-p.result c.fewer-p.ensures refl c.refresh_one-t.result _ c.refresh_one-t.ensures in
+    ends c.args.arm (links_length c.args.arm c.well_formed.0) c.args.tables.now c.args.new _ c.add_refusal-refusal.ensures c.if-refusal-ne0.false
+    c.handed_in-handed.result c.handed_in-handed.ensures c.start_among-start.result c.start_among-start.ensures c.link_of-link.result _ _ c.link_of-link.ensures
+    c.fewer-p.result c.fewer-p.ensures refl c.refresh_one-t.result _ c.refresh_one-t.ensures in
     ended.off (not-true c.refresh_one-t.result.fine c.if-not-t.true)
 
 pub offset_bounds-links-n : goal.offset_bounds-links-n
@@ -56,7 +52,7 @@ overflow_add-n c = omega (arith, (passed c.args.arm c.args.tables.now c.args.new
 pub returns : goal.returns
 returns c =
     let ended : Ends c.args.arm c.args.tables.now c.args.new c.start_among-start.result c.refresh_one-t.result c.refresh_one-t.new.tables =
-        ends c.args.arm (links_length c.args.arm c.well_formed.0) c.args.tables.now c.args.new _ c.add_refusal-refusal.ensures c.if-refusal-ne0.false
-        c.handed_in-handed.result c.handed_in-handed.ensures c.start_among-start.result c.start_among-start.ensures c.link_of-link.result _ _ c.link_of-link.ensures
-        c.fewer-p.result c.fewer-p.ensures refl c.refresh_one-t.result _ c.refresh_one-t.ensures in
+    ends c.args.arm (links_length c.args.arm c.well_formed.0) c.args.tables.now c.args.new _ c.add_refusal-refusal.ensures c.if-refusal-ne0.false
+    c.handed_in-handed.result c.handed_in-handed.ensures c.start_among-start.result c.start_among-start.ensures c.link_of-link.result _ _ c.link_of-link.ensures
+    c.fewer-p.result c.fewer-p.ensures refl c.refresh_one-t.result _ c.refresh_one-t.ensures in
     rw c.arm_with-added.ensures (ended.on (not-false c.refresh_one-t.result.fine c.if-not-t.false) _ c.with_new_entries-rows.ensures)

@@ -1,5 +1,4 @@
 -- `change_tests`: each variant is its case of the definitions. Assumes nothing.
-use borrow.Author.Rules.{rules}
 use Rattle.one_link_move.specs.Inner.{tests_of}
 use Rattle.one_link_move.proofs.change_tests.Goals as goal
 

@@ -3,7 +3,6 @@ use mathlib.Core.Path.{sym, ap, ◌∙◌}
 use Rattle.arm.specs.Setters.{with_joint}
 use Rattle.one_link_move.specs.declared.Change.{Change}
 use Rattle.one_link_move.specs.Change.{changed}
-use borrow.Author.Rules.{rules}
 use Rattle.one_link_move.proofs.with_change.Goals as goal
 
 pub returns-in-Coordinate : goal.returns-in-Coordinate
