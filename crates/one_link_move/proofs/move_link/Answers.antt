@@ -55,7 +55,7 @@ returns-then-not-t c =
     (link_moved own.arm own.tables.now own.link own.change) =     alone_ends c.args.arm (links_length c.args.arm c.well_formed.0) c.args.tables.now c.args.link
     c.args.change _ c.move_refusal-refusal.ensures c.if-refusal-ne0.false c.handed_in-handed.result
     c.handed_in-handed.ensures _ c.with_change-new.result c.with_change-new.ensures
-    (sym c.is_Is_leaf.ensures ∙ c.if-is_leaf.true) c.fewer-p.result c.fewer-p.ensures _ _ refl
+    (sym c.is_leaf.ensures ∙ c.if-is_leaf.true) c.fewer-p.result c.fewer-p.ensures _ _ refl
     c.start_among.result c.start_among.ensures c.refresh_one-t.result _ c.refresh_one-t.ensures in
     alone.off (not-true c.refresh_one-t.result.fine c.if-not-t.true) _ c.answer-then-not-t.ensures
 
@@ -78,7 +78,7 @@ returns-then-is_leaf c =
     (link_moved own.arm own.tables.now own.link own.change) =     alone_ends c.args.arm (links_length c.args.arm c.well_formed.0) c.args.tables.now c.args.link
     c.args.change _ c.move_refusal-refusal.ensures c.if-refusal-ne0.false c.handed_in-handed.result
     c.handed_in-handed.ensures _ c.with_change-new.result c.with_change-new.ensures
-    (sym c.is_Is_leaf.ensures ∙ c.if-is_leaf.true) c.fewer-p.result c.fewer-p.ensures _ _ refl
+    (sym c.is_leaf.ensures ∙ c.if-is_leaf.true) c.fewer-p.result c.fewer-p.ensures _ _ refl
     c.start_among.result c.start_among.ensures c.refresh_one-t.result _ c.refresh_one-t.ensures in
     alone.on (not-false c.refresh_one-t.result.fine c.if-not-t.false) _ c.answer-then-is_leaf.ensures
 
