@@ -21,7 +21,7 @@ use Rattle.lists.proofs.Every.{every_at, every_drop, every_join, every_take}
 use Rattle.lists.proofs.Lists.{map_at}
 use Rattle.lists.specs.Tests.{every}
 use Rattle.lists.proofs.Numbers.{count_lt, count_at, all_below_lem}
-use Rattle.lists.specs.Numbers.{each, count_below, gathered, chosen}
+use Rattle.lists.specs.Numbers.{each, count_below, chosen}
 use Rattle.lists.proofs.Bools.{both_hold, both}
 use Rattle.limits.specs.Limits.{link_limit, coupling_limit, dof_limit}
 use Rattle.floats.specs.Floats.{all_finite, is_finite}

@@ -3,7 +3,6 @@ use mathlib.Core.Path.{◌∙◌}
 use Rattle.addition.specs.Addition.{add_refusal}
 use Rattle.arm.proofs.Shape.{links_length}
 use Rattle.arm.proofs.Handed.{found_refusal, found_tags}
-use borrow.Author.Rules.{rules}
 use Rattle.addition.proofs.add_refusal.Goals as goal
 
 pub returns : goal.returns

@@ -1,6 +1,5 @@
 -- `damping_of`: a mask is not refused, so its row is laid over the zeros. Assumes nothing.
 use Rattle.addition.proofs.Entries.{damped}
-use borrow.Author.Rules.{rules}
 use Rattle.addition.proofs.damping_of.Goals as goal
 
 pub returns : goal.returns

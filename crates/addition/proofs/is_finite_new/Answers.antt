@@ -1,6 +1,5 @@
 -- `is_finite_new`: the same tests. Assumes nothing.
 use Rattle.addition.specs.Addition.{floats_finite}
-use borrow.Author.Rules.{rules}
 use Rattle.addition.proofs.is_finite_new.Goals as goal
 
 pub returns : goal.returns

@@ -2,7 +2,6 @@
 use mathlib.Core.Path.{◌∙◌, ap, refl}
 use Rattle.lists.proofs.Lists.{front}
 use Rattle.arm.specs.HandedIn.{is_new}
-use borrow.Author.Rules.{rules}
 use Rattle.addition.proofs.is_new_tag.Goals as goal
 
 pub returns : goal.returns

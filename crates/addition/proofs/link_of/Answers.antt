@@ -1,6 +1,5 @@
 -- `link_of`: the definition, by its joint. Assumes nothing.
 use Rattle.addition.specs.NewLink.{link_of}
-use borrow.Author.Rules.{rules}
 use Rattle.addition.proofs.link_of.Goals as goal
 
 pub returns : goal.returns

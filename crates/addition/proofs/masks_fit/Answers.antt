@@ -1,7 +1,6 @@
 -- `masks_fit`: a root's locked mask is tested too. Assumes nothing.
 use mathlib.Core.Path.{◌∙◌}
 use Rattle.addition.proofs.Tests.{first_masks, later_masks}
-use borrow.Author.Rules.{rules}
 use Rattle.addition.proofs.masks_fit.Goals as goal
 
 pub returns-then-link-eq0 : goal.returns-then-link-eq0

@@ -1,6 +1,5 @@
 -- `turns_fit`: the same tests. Assumes nothing.
 use Rattle.addition.specs.Addition.{turns_fit}
-use borrow.Author.Rules.{rules}
 use Rattle.addition.proofs.turns_fit.Goals as goal
 
 pub returns : goal.returns

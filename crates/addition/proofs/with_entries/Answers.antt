@@ -2,7 +2,6 @@
 use native.Mathlib.Omega.{arith}
 use Rattle.arm.proofs.Shape.{row-length}
 use Rattle.addition.proofs.Entries.{entries_set_lem}
-use borrow.Author.Rules.{rules}
 use Rattle.addition.proofs.with_entries.Goals as goal
 
 pub returns : goal.returns

@@ -2,14 +2,12 @@ use Rattle.lists.proofs.Lists.{filled_more, map_at}
 use Rattle.addition.proofs.Entries.{rows_with_lem}
 use Rattle.multibody_joint.specs.Joint.{zeros}
 use Rattle.addition.specs.NewLink.{entries_set}
-use Prim.Native.Nat.{◌-◌, ◌≤◌}
 use mathlib.Core.Path.{◌∙◌, ◌≡◌, refl, sym}
 use native.Mathlib.Omega.{arith}
-use lib.ListN.{length-map, length-set, length, take}
+use lib.ListN.{length-map, length-set, length}
 use Rattle.masks.proofs.Laws.{dofs_le}
 use Rattle.arm.specs.declared.Row.{Row}
 use mathlib.Core.List.{map, []}
-use borrow.Author.Rules.{rules}
 use Rattle.addition.proofs.with_new_entries.Goals as goal
 
 pub loop-i-init : goal.loop-i-init

@@ -1,9 +1,8 @@
-use lib.ListN.{length, get_or}
-use Prim.Native.Nat.{◌-◌, ◌≤◌, ◌+◌}
+use lib.ListN.{get_or}
+use Prim.Native.Nat.{◌+◌}
 use mathlib.Core.Path.{refl, ◌∙◌, ap}
 use native.Mathlib.Omega.{arith}
-use borrow.Author.Rules.{rules}
-use Rattle.arm.proofs.Unique.{TestedUnique, unique_all, unique_more}
+use Rattle.arm.proofs.Unique.{unique_all, unique_more}
 use Rattle.lists.proofs.Lists.{tail}
 use Rattle.arm.specs.HandedIn.{is_new}
 use Rattle.arm.proofs.all_unique.Goals as goal

@@ -1,5 +1,4 @@
 -- `angle_fits`: the test of the third coordinate. Assumes nothing.
-use borrow.Author.Rules.{rules}
 use Rattle.arm.specs.HandedIn.{angle_fits}
 use Rattle.arm.proofs.angle_fits.Goals as goal
 

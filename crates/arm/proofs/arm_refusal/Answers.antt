@@ -1,6 +1,5 @@
 -- `arm_refusal`: what is found, its number. Assumes nothing.
 use mathlib.Core.Path.{ap}
-use borrow.Author.Rules.{rules}
 use Rattle.arm.specs.Inner.{handed_in}
 use Rattle.arm.specs.declared.HandedIn.{HandedIn}
 use Rattle.arm.proofs.arm_refusal.Goals as goal

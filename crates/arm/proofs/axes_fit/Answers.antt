@@ -1,5 +1,4 @@
 -- `axes_fit`: the tests of both axes. Assumes nothing.
-use borrow.Author.Rules.{rules}
 use Rattle.arm.specs.HandedIn.{coupling_axes_fit}
 use Rattle.arm.proofs.axes_fit.Goals as goal
 

@@ -1,9 +1,8 @@
 use mathlib.Core.Bool.{Bool}
 use lib.ListN.{length, take}
-use Prim.Native.Nat.{◌-◌, ◌≤◌, ℕ, min}
+use Prim.Native.Nat.{◌≤◌, ℕ, min}
 use mathlib.Core.Path.{◌≡◌, refl}
 use native.Mathlib.Omega.{arith}
-use borrow.Author.Rules.{rules}
 use Rattle.arm.specs.Inner.{coupling_tests_of}
 use Rattle.lists.proofs.Every.{Tested, front_more, front_all}
 use Rattle.limits.specs.Limits.{coupling_limit}

@@ -7,7 +7,6 @@ use Rattle.limits.specs.Limits.{link_limit}
 use Rattle.masks.proofs.Laws.{dofs_le, below-le}
 use Rattle.masks.proofs.Totals.{total_le}
 use Rattle.arm.proofs.Live.{within}
-use borrow.Author.Rules.{rules}
 use Rattle.arm.proofs.dof_among.Goals as goal
 
 pub overflow_add-result : goal.overflow_add-result

@@ -8,7 +8,6 @@ use Rattle.arm.specs.Arm.{live_links, mask_at, start_at}
 use Rattle.arm.specs.Edits.{dof_at}
 use Rattle.arm.proofs.Shape.{links_length}
 use Rattle.arm.proofs.Live.{masks_front}
-use borrow.Author.Rules.{rules}
 use Rattle.arm.proofs.dof_at.Goals as goal
 
 pub returns : goal.returns

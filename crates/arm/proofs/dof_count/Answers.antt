@@ -1,7 +1,6 @@
 -- `dof_count`: the start after the last place for a link is the whole. Assumes nothing.
 use mathlib.Core.Path.{◌∙◌}
 use native.Mathlib.Omega.{arith}
-use borrow.Author.Rules.{rules}
 use Rattle.limits.specs.Limits.{link_limit}
 use Rattle.arm.proofs.Shape.{links_length}
 use Rattle.arm.proofs.Live.{start_whole}

@@ -1,6 +1,5 @@
 -- `empty_arm`: the definition, field by field. Assumes nothing.
 use Rattle.arm.specs.Empty.{empty_arm}
-use borrow.Author.Rules.{rules}
 use Rattle.arm.proofs.empty_arm.Goals as goal
 
 pub returns : goal.returns

@@ -24,7 +24,6 @@ use Rattle.arm.specs.Arm.{live_links, tags_of, parents_of, masks_of, dof_count_o
 use Rattle.arm.specs.HandedIn.{unique, tags_unique, parents_earlier, root_mask_fits, root_fits, rows_finite, counts_fit, arm_rules, arm_refusal}
 use Rattle.arm.proofs.Live.{masks_le, tags_live, parents_live, masks_live, dof_count_le}
 use Rattle.arm.proofs.Shape.{links_length}
-use borrow.Author.Rules.{rules}
 use Rattle.arm.proofs.handed_in.Goals as goal
 
 -- what the pass over the links found, up to the count

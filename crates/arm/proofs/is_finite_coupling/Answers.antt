@@ -1,5 +1,4 @@
 -- `is_finite_coupling`: the tests of both floats. Assumes nothing.
-use borrow.Author.Rules.{rules}
 use Rattle.arm.specs.HandedIn.{coupling_finite}
 use Rattle.arm.proofs.is_finite_coupling.Goals as goal
 

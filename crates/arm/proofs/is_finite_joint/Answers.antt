@@ -1,5 +1,4 @@
 -- `is_finite_joint`: the tests of its parts. Assumes nothing.
-use borrow.Author.Rules.{rules}
 use Rattle.arm.specs.HandedIn.{joint_finite}
 use Rattle.arm.proofs.is_finite_joint.Goals as goal
 

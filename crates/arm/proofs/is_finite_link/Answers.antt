@@ -1,5 +1,4 @@
 -- `is_finite_link`: the tests of its parts. Assumes nothing.
-use borrow.Author.Rules.{rules}
 use Rattle.arm.specs.HandedIn.{link_finite}
 use Rattle.arm.proofs.is_finite_link.Goals as goal
 

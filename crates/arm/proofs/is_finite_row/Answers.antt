@@ -1,7 +1,6 @@
 -- `is_finite_row`: the test of the row's front. Assumes nothing.
 use native.Mathlib.Nat.{sub-zero}
 use native.Mathlib.Omega.{arith}
-use borrow.Author.Rules.{rules}
 use Rattle.arm.specs.Inner.{row_finite}
 use Rattle.arm.proofs.Shape.{row-length}
 use Rattle.arm.proofs.is_finite_row.Goals as goal

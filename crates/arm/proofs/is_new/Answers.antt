@@ -1,9 +1,6 @@
-use lib.ListN.{length}
-use Prim.Native.Nat.{◌-◌, ◌≤◌}
 use mathlib.Core.Path.{refl}
 use native.Mathlib.Omega.{arith}
-use borrow.Author.Rules.{rules}
-use Rattle.lists.proofs.Every.{Tested, tested_all, tested_more}
+use Rattle.lists.proofs.Every.{tested_all, tested_more}
 use Rattle.arm.specs.HandedIn.{differs}
 use Rattle.arm.proofs.is_new.Goals as goal
 

@@ -1,10 +1,7 @@
 -- `is_new`: what is tested so far, with what is left, is the whole test. Assumes nothing.
 use lib.ListN.{length}
 use Prim.Native.Nat.{◌-◌, ◌≤◌}
-use mathlib.Core.Path.{refl}
-use native.Mathlib.Omega.{arith}
-use borrow.Author.Rules.{rules}
-use Rattle.lists.proofs.Every.{Tested, tested_all, tested_more}
+use Rattle.lists.proofs.Every.{Tested}
 use Rattle.arm.specs.HandedIn.{differs}
 use Rattle.arm.proofs.is_new.Given as goal
 

@@ -1,4 +1,4 @@
-use Prim.Native.Nat.{ℕ, ◌+◌, ◌-◌, ◌≤◌, ◌<◌}
+use Prim.Native.Nat.{ℕ, ◌+◌, ◌≤◌, ◌<◌}
 use native.Mathlib.Numerals.{add-one}
 use lib.ListN.{length, length-map, take, get_or, set}
 use Rattle.arm.specs.Inner.{link_tests_of, padded}
@@ -15,10 +15,8 @@ use Rattle.arm.proofs.Live.{tags_front, parents_front, masks_front}
 use Rattle.arm.proofs.Shape.{links_length}
 use mathlib.Core.List.{List, map}
 use mathlib.Core.Bool.{Bool}
-use mathlib.Core.Logic.{⊎_elim}
 use mathlib.Core.Path.{◌≡◌, refl, ◌∙◌, ap}
 use native.Mathlib.Omega.{arith}
-use borrow.Author.Rules.{rules}
 use Rattle.arm.proofs.link_tests.Goals as goal
 use Rattle.arm.proofs.link_tests.Goals.{then-floats, else-floats}
 

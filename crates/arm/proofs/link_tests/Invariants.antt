@@ -1,25 +1,13 @@
 -- `link_tests`: one pass; the arrays are filled from the front; of each test, what is tested so far, with what is left, is the whole. Assumes nothing.
-use Prim.Native.Nat.{ℕ, ◌+◌, ◌-◌, ◌≤◌, ◌<◌}
-use native.Mathlib.Numerals.{add-one}
-use lib.ListN.{length, length-map, take, get_or, set}
-use Rattle.arm.specs.Inner.{link_tests_of, padded}
-use Rattle.lists.proofs.Every.{Tested, tested_failed, front_more, front_next, front_all}
-use Rattle.lists.proofs.Lists.{map_at}
-use Rattle.arm.proofs.Padded.{padded_more, length-padded}
+use Prim.Native.Nat.{◌-◌, ◌≤◌}
+use lib.ListN.{take}
+use Rattle.arm.specs.Inner.{padded}
+use Rattle.lists.proofs.Every.{Tested}
 use Rattle.limits.specs.Limits.{link_limit}
-use Rattle.arm.specs.Arm.{live_links, links_of, tag_of, parent_of, locked_of}
+use Rattle.arm.specs.Arm.{tag_of, parent_of, locked_of}
 use Rattle.arm.specs.HandedIn.{link_angle_fits, link_finite, link_masks_fit}
-use Rattle.arm.specs.declared.Arm.{Arm}
-use Rattle.arm.specs.declared.Link.{Link}
-use Rattle.arm.specs.declared.LinkTests.{LinkTests}
-use Rattle.arm.proofs.Live.{tags_front, parents_front, masks_front}
-use Rattle.arm.proofs.Shape.{links_length}
-use mathlib.Core.List.{List, map}
-use mathlib.Core.Bool.{Bool}
-use mathlib.Core.Logic.{⊎_elim}
-use mathlib.Core.Path.{◌≡◌, refl, ◌∙◌, ap}
-use native.Mathlib.Omega.{arith}
-use borrow.Author.Rules.{rules}
+use mathlib.Core.List.{map}
+use mathlib.Core.Path.{◌≡◌}
 use Rattle.arm.proofs.link_tests.Given as goal
 
 abbrev pub invariant-loop-i : goal.invariant-loop-i

@@ -1,6 +1,5 @@
 -- `links_fit`: the tests of both links. Assumes nothing.
 use mathlib.Core.Path.{refl}
-use borrow.Author.Rules.{rules}
 use Rattle.arm.specs.HandedIn.{coupling_links_fit}
 use Rattle.arm.proofs.links_fit.Goals as goal
 

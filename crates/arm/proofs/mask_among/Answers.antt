@@ -6,7 +6,6 @@ use lib.ListN.{length, take, length-take, get_or-eq_default}
 use lib.Seq.{get_or-take}
 use Rattle.lists.proofs.Lists.{any_default}
 use Rattle.limits.specs.Limits.{link_limit}
-use borrow.Author.Rules.{rules}
 use Rattle.arm.proofs.mask_among.Goals as goal
 
 pub returns-then-link-live_links : goal.returns-then-link-live_links

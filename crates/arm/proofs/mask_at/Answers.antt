@@ -6,7 +6,6 @@ use lib.ListN.{take, get_or}
 use Rattle.arm.specs.Arm.{live_links, mask_at}
 use Rattle.arm.proofs.Shape.{links_length}
 use Rattle.arm.proofs.Live.{masks_front}
-use borrow.Author.Rules.{rules}
 use Rattle.arm.proofs.mask_at.Goals as goal
 
 pub returns : goal.returns

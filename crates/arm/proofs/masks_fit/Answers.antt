@@ -1,5 +1,4 @@
 -- `masks_fit`: the tests of the three masks. Assumes nothing.
-use borrow.Author.Rules.{rules}
 use Rattle.arm.specs.HandedIn.{joint_masks_fit}
 use Rattle.arm.proofs.masks_fit.Goals as goal
 

@@ -1,6 +1,5 @@
 -- `parents_earlier`: the test of the front. Assumes nothing.
 use native.Mathlib.Nat.{sub-zero}
-use borrow.Author.Rules.{rules}
 use Rattle.arm.proofs.parents_earlier.Goals as goal
 
 pub returns : goal.returns

@@ -1,9 +1,7 @@
 use mathlib.Core.List.{map}
-use lib.ListN.{length, length-map, length-set, take}
-use Prim.Native.Nat.{◌-◌, ◌≤◌}
+use lib.ListN.{length, length-map, length-set}
 use mathlib.Core.Path.{◌≡◌, refl, sym}
 use native.Mathlib.Omega.{arith}
-use borrow.Author.Rules.{rules}
 use Rattle.lists.proofs.Lists.{filled_all, filled_more, map_at}
 use Rattle.limits.specs.Limits.{link_limit}
 use Rattle.arm.specs.Arm.{parent_of}

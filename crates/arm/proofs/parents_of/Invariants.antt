@@ -1,14 +1,10 @@
 -- `parents_of`: the array is filled from the front. Assumes nothing.
 use mathlib.Core.List.{map}
-use lib.ListN.{length, length-map, length-set, take}
+use lib.ListN.{length, take}
 use Prim.Native.Nat.{◌-◌, ◌≤◌}
-use mathlib.Core.Path.{◌≡◌, refl, sym}
-use native.Mathlib.Omega.{arith}
-use borrow.Author.Rules.{rules}
-use Rattle.lists.proofs.Lists.{filled_all, filled_more, map_at}
+use mathlib.Core.Path.{◌≡◌}
 use Rattle.limits.specs.Limits.{link_limit}
 use Rattle.arm.specs.Arm.{parent_of}
-use Rattle.arm.proofs.Shape.{links_length}
 use Rattle.arm.proofs.parents_of.Given as goal
 
 abbrev pub invariant-loop-i : goal.invariant-loop-i

@@ -3,7 +3,6 @@ use Rattle.arm.proofs.Live.{root_none, root_some}
 use lib.ListN.{length}
 use mathlib.Core.Path.{◌≡◌}
 use native.Mathlib.Omega.{arith}
-use borrow.Author.Rules.{rules}
 use Rattle.arm.proofs.root_fits.Goals as goal
 
 pub returns-then-n-eq0 : goal.returns-then-n-eq0

@@ -1,10 +1,8 @@
 use lib.ListN.{length}
-use Prim.Native.Nat.{◌-◌, ◌≤◌}
 use mathlib.Core.Path.{◌≡◌, refl}
 use native.Mathlib.Omega.{arith}
-use borrow.Author.Rules.{rules}
 use Rattle.arm.specs.Inner.{row_finite}
-use Rattle.lists.proofs.Every.{Tested, tested_more, tested_all}
+use Rattle.lists.proofs.Every.{tested_more, tested_all}
 use Rattle.arm.proofs.rows_finite.Goals as goal
 
 pub loop-i-init : goal.loop-i-init

@@ -1,11 +1,7 @@
 -- `rows_finite`: what is tested so far, with what is left, is the whole test. Assumes nothing.
-use lib.ListN.{length}
 use Prim.Native.Nat.{◌-◌, ◌≤◌}
-use mathlib.Core.Path.{◌≡◌, refl}
-use native.Mathlib.Omega.{arith}
-use borrow.Author.Rules.{rules}
 use Rattle.arm.specs.Inner.{row_finite}
-use Rattle.lists.proofs.Every.{Tested, tested_more, tested_all}
+use Rattle.lists.proofs.Every.{Tested}
 use Rattle.arm.proofs.rows_finite.Given as goal
 
 abbrev pub invariant-loop-i : goal.invariant-loop-i

@@ -1,11 +1,10 @@
-use Prim.Native.Nat.{◌-◌, ◌≤◌, min}
+use Prim.Native.Nat.{min}
 use mathlib.Core.Path.{◌≡◌, refl, ap, ◌∙◌}
 use Rattle.masks.specs.Masks.{dofs_of}
 use native.Mathlib.Omega.{arith}
 use lib.ListN.{get_or, length, take, length-take}
 use lib.Seq.{get_or-take}
 use Rattle.limits.specs.Limits.{link_limit}
-use borrow.Author.Rules.{rules}
 use Rattle.masks.specs.Starts.{start_of, total_of}
 use Rattle.masks.proofs.Laws.{dofs_le}
 use Rattle.masks.proofs.Totals.{start_le, start_next}

@@ -7,7 +7,6 @@ use Rattle.masks.specs.Starts.{start_of}
 use Rattle.arm.specs.Arm.{live_links, start_at}
 use Rattle.arm.proofs.Shape.{links_length}
 use Rattle.arm.proofs.Live.{masks_front}
-use borrow.Author.Rules.{rules}
 use Rattle.arm.proofs.start_of.Goals as goal
 
 pub returns : goal.returns

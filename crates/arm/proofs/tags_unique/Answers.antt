@@ -1,6 +1,5 @@
 -- `tags_unique`: the test of the front. Assumes nothing.
 use native.Mathlib.Nat.{sub-zero}
-use borrow.Author.Rules.{rules}
 use Rattle.arm.proofs.tags_unique.Goals as goal
 
 pub returns : goal.returns

@@ -1,6 +1,5 @@
 -- `unplaced_link`: the definition, field by field. Assumes nothing.
 use Rattle.arm.specs.Setters.{unplaced}
-use borrow.Author.Rules.{rules}
 use Rattle.arm.proofs.unplaced_link.Goals as goal
 
 pub returns : goal.returns

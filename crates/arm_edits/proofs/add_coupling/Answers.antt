@@ -1,13 +1,10 @@
 -- `add_coupling`: an accepted coupling has a place, and its numbers are bytes; a refusal returns the arm. Assumes nothing.
 use mathlib.Core.Path.{◌∙◌, refl, sym}
 use native.Mathlib.Omega.{arith}
-use borrow.Author.Rules.{rules}
 use Rattle.arm.proofs.Edits.{edited_none, edited_some}
 use Rattle.arm_edits.specs.Couplings.{coupling_added, with_coupling}
 use Rattle.arm_edits.proofs.Accepted.{Coupling-fits, coupling_fits}
 use Rattle.arm_edits.proofs.add_coupling.Goals as goal
-
--- what an accepted coupling fits
 
 pub returns-then-refusal-ne0 : goal.returns-then-refusal-ne0
 unfolding coupling_added

@@ -1,5 +1,4 @@
 -- `is_finite_spring`: the tests of both floats. Assumes nothing.
-use borrow.Author.Rules.{rules}
 use Rattle.arm_edits.specs.Springs.{spring_finite}
 use Rattle.arm_edits.proofs.is_finite_spring.Goals as goal
 

@@ -2,7 +2,6 @@
 use Prim.Native.Nat.{◌<◌}
 use mathlib.Core.Path.{◌≡◌, ◌∙◌, sym}
 use native.Mathlib.Omega.{arith}
-use borrow.Author.Rules.{rules}
 use Rattle.arm.specs.Arm.{live_links}
 use Rattle.arm.proofs.Accepted.{live}
 use Rattle.arm.proofs.Edits.{edited_none, edited_some}
@@ -10,8 +9,6 @@ use Rattle.arm_edits.specs.Springs.{spring_refusal, arm_spring_set}
 use Rattle.arm_edits.proofs.Accepted.{set_spring_there}
 use Rattle.arm_edits.proofs.Stores.{spring_stored}
 use Rattle.arm_edits.proofs.set_spring.Goals as goal
-
--- ---- seen from where the call is accepted
 
 pub returns-then-refusal-ne0 : goal.returns-then-refusal-ne0
 unfolding arm_spring_set

@@ -1,6 +1,5 @@
 -- `with_entry` stores the entry. Assumes nothing.
 use mathlib.Core.Path.{refl}
-use borrow.Author.Rules.{rules}
 use Rattle.arm_edits.specs.Rows.{entry_set}
 use Rattle.arm_edits.proofs.with_entry.Goals as goal
 

@@ -1,6 +1,5 @@
 -- `with_spring` changes the joint only. Assumes nothing.
 use Rattle.arm_edits.specs.Springs.{link_spring_set}
-use borrow.Author.Rules.{rules}
 use Rattle.arm_edits.proofs.with_spring.Goals as goal
 
 pub returns : goal.returns

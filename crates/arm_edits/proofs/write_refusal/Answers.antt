@@ -2,7 +2,6 @@
 use Rattle.arm.proofs.Handed.{found_mask, found_refusal}
 use Rattle.arm.proofs.Shape.{links_length}
 use Rattle.arm_edits.specs.Rows.{write_refusal}
-use borrow.Author.Rules.{rules}
 use Rattle.arm_edits.proofs.write_refusal.Goals as goal
 
 pub returns : goal.returns

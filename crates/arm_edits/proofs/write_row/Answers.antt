@@ -9,7 +9,6 @@ use Rattle.arm.specs.declared.HandedIn.{HandedIn}
 use Rattle.arm.specs.Arm.{live_links, start_at, mask_at}
 use Rattle.arm.proofs.Handed.{found_masks}
 use native.Mathlib.Omega.{arith}
-use borrow.Author.Rules.{rules}
 use Rattle.arm.specs.declared.Arm.{Arm}
 use Rattle.arm.specs.declared.Edited.{Edited}
 use Rattle.arm.specs.Edits.{edited, dof_at}
@@ -34,10 +33,6 @@ unfolding dof_among dof_at start_at mask_at
 place a w h e link axis =
     ap (λ (ms : List ℕ). dof_among ms link axis) (found_masks a w h e)
 
--- ---- seen from where the write is accepted
-
--- ---- seen from where the entry's place was found
-
 pub offset_bounds-new-k : goal.offset_bounds-new-k
 offset_bounds-new-k c =
     omega (arith, c.row_number-k.ensures, row-there c.args.name)
@@ -49,7 +44,7 @@ bounds-new-k c =
 pub with_entry-requires : goal.with_entry-requires
 with_entry-requires c =
     let unrefused : write_refusal c.args.arm c.args.link c.args.axis c.args.value ≡ 0 = sym c.write_refusal-refusal.ensures ∙ c.if-refusal-eq0.true in
-    let placed : c.dof_among-at.result ≡ dof_at c.args.arm c.args.link c.args.axis =     let found = c.handed_in-handed in
+    let placed : c.dof_among-at.result ≡ dof_at c.args.arm c.args.link c.args.axis = let found = c.handed_in-handed in
     let arm = c.args.arm in
     c.dof_among-at.ensures ∙ place arm (links_length arm c.well_formed.0) found.result found.ensures c.args.link c.args.axis in
     let arm = c.args.arm in
@@ -71,7 +66,7 @@ bounds-new-k-then-refusal-eq0 c =
 pub returns-then-refusal-eq0 : goal.returns-then-refusal-eq0
 unfolding row_written
 returns-then-refusal-eq0 c =
-    let placed : c.dof_among-at.result ≡ dof_at c.args.arm c.args.link c.args.axis =     let found = c.handed_in-handed in
+    let placed : c.dof_among-at.result ≡ dof_at c.args.arm c.args.link c.args.axis = let found = c.handed_in-handed in
     let arm = c.args.arm in
     c.dof_among-at.ensures ∙ place arm (links_length arm c.well_formed.0) found.result found.ensures c.args.link c.args.axis in
     let given = c.args in

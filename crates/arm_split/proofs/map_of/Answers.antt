@@ -2,7 +2,6 @@
 use mathlib.Core.List.{List}
 use Prim.Native.Nat.{ℕ}
 use mathlib.Core.Path.{ap, ◌∙◌}
-use borrow.Author.Rules.{rules}
 use Rattle.lists.proofs.Lists.{front}
 use Rattle.arm.proofs.Shape.{links_length}
 use Rattle.arm.proofs.Live.{parents_front}

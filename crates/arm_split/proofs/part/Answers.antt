@@ -1,7 +1,6 @@
 -- `part`: the refusals are the definition's; else the part read off the map is the split rule's, and it is worked out. Assumes nothing.
 use mathlib.Core.Path.{◌≡◌, ap, ◌∙◌}
 use native.Mathlib.Omega.{arith}
-use borrow.Author.Rules.{rules}
 use Rattle.arm_split.proofs.Chosen.{part_given}
 use Rattle.arm_split.proofs.Refused.{is_part_refusal}
 use Rattle.arm_split.specs.Answers.{part_refusal, arm_part}
@@ -15,7 +14,7 @@ use Rattle.arm_split.proofs.part.Goals as goal
 pub returns-then-refusal-ne0 : goal.returns-then-refusal-ne0
 unfolding arm_part
 returns-then-refusal-ne0 c =
-    let refusal : c.lowest-refusal.result ≡ part_refusal c.args.arm c.args.s c.args.k c.args.tables.now =     let a = c.args.arm in
+    let refusal : c.lowest-refusal.result ≡ part_refusal c.args.arm c.args.s c.args.k c.args.tables.now = let a = c.args.arm in
     is_part_refusal a (links_length a c.well_formed.0) c.args.s _ _ (omega arith) _ c.map_of-bare.ensures _ c.arm_refusal.ensures _ _ _ c.lowest-refusal.ensures
     c.args.k c.args.tables.now _ c.tables_fit.ensures c.unless.ensures c.unless-2.ensures in
     let t = c.args.tables.now in
@@ -23,7 +22,7 @@ returns-then-refusal-ne0 c =
 
 pub returns : goal.returns
 returns c =
-    let refusal : c.lowest-refusal.result ≡ part_refusal c.args.arm c.args.s c.args.k c.args.tables.now =     let a = c.args.arm in
+    let refusal : c.lowest-refusal.result ≡ part_refusal c.args.arm c.args.s c.args.k c.args.tables.now = let a = c.args.arm in
     is_part_refusal a (links_length a c.well_formed.0) c.args.s _ _ (omega arith) _ c.map_of-bare.ensures _ c.arm_refusal.ensures _ _ _ c.lowest-refusal.ensures
     c.args.k c.args.tables.now _ c.tables_fit.ensures c.unless.ensures c.unless-2.ensures in
     let a = c.args.arm in

@@ -2,14 +2,13 @@
 use native.Mathlib.Omega.{arith}
 use mathlib.Core.Path.{◌≡◌, refl, ◌∙◌}
 use Rattle.arm_split.specs.Answers.{split_refusal}
-use borrow.Author.Rules.{rules}
 use Rattle.arm_split.proofs.Refused.{split_refused, split_given, is_split_refusal}
 use Rattle.arm.proofs.Shape.{links_length}
 use Rattle.arm_split.proofs.split.Goals as goal
 
 pub returns-then-refusal-ne0 : goal.returns-then-refusal-ne0
 returns-then-refusal-ne0 c =
-    let refusal : c.lowest-refusal.result ≡ split_refusal c.args.arm c.args.s c.args.map.now =     let a = c.args.arm in
+    let refusal : c.lowest-refusal.result ≡ split_refusal c.args.arm c.args.s c.args.map.now = let a = c.args.arm in
     is_split_refusal a (links_length a c.well_formed.0) c.args.s _ _ (omega arith) _ c.map_of-bare.ensures _ c.arm_refusal.ensures _ _ _ c.lowest-refusal.ensures _
     c.args.map.now c.live_links.ensures c.unless.ensures refl in
     let a = c.args.arm in
@@ -17,7 +16,7 @@ returns-then-refusal-ne0 c =
 
 pub returns : goal.returns
 returns c =
-    let refusal : c.lowest-refusal.result ≡ split_refusal c.args.arm c.args.s c.args.map.now =     let a = c.args.arm in
+    let refusal : c.lowest-refusal.result ≡ split_refusal c.args.arm c.args.s c.args.map.now = let a = c.args.arm in
     is_split_refusal a (links_length a c.well_formed.0) c.args.s _ _ (omega arith) _ c.map_of-bare.ensures _ c.arm_refusal.ensures _ _ _ c.lowest-refusal.ensures _
     c.args.map.now c.live_links.ensures c.unless.ensures refl in
     let a = c.args.arm in

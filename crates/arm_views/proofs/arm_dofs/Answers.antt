@@ -1,6 +1,5 @@
 -- `arm_dofs`: the DoF count, unless there is a refusal. Assumes nothing.
 use Rattle.arm_views.specs.Numbers.{dofs_answer}
-use borrow.Author.Rules.{rules}
 use Rattle.arm_views.proofs.arm_dofs.Goals as goal
 
 pub returns : goal.returns

@@ -1,6 +1,5 @@
 -- `branch_needed`: the length of the branch over the bare parents. Assumes nothing.
 use mathlib.Core.Path.{◌∙◌}
-use borrow.Author.Rules.{rules}
 use Rattle.lists.proofs.Lists.{front}
 use Rattle.arm.proofs.Shape.{links_length}
 use Rattle.arm.proofs.Live.{parents_front}

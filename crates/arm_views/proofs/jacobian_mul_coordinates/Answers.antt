@@ -2,7 +2,6 @@
 use Prim.Native.Nat.{◌<◌}
 use mathlib.Core.Path.{◌∙◌, sym}
 use native.Mathlib.Omega.{arith}
-use borrow.Author.Rules.{rules}
 use Rattle.arm.specs.Arm.{live_links}
 use Rattle.arm.proofs.Accepted.{live}
 use Rattle.arm.proofs.Shape.{links_length}
@@ -11,8 +10,6 @@ use Rattle.arm_views.specs.Links.{axes_in, mul_answer}
 use Rattle.arm_views.proofs.Accepted.{mul-there}
 use Rattle.arm_views.proofs.Answers.{axes_none, axes_some, of_link_lem}
 use Rattle.arm_views.proofs.jacobian_mul_coordinates.Goals as goal
-
--- ---- seen from where the call is accepted
 
 pub returns-then-refusal-ne0 : goal.returns-then-refusal-ne0
 unfolding mul_answer

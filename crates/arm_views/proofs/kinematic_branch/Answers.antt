@@ -1,6 +1,5 @@
 -- `kinematic_branch`: an accepted call is accepted for the bare parents; a refusal leaves the memory. Assumes nothing.
 use mathlib.Core.Path.{◌∙◌}
-use borrow.Author.Rules.{rules}
 use Rattle.lists.proofs.Lists.{front}
 use Rattle.arm.proofs.Shape.{links_length}
 use Rattle.arm.proofs.Live.{parents_front}

@@ -1,6 +1,5 @@
 -- `link_start`: the start, unless there is a refusal. Assumes nothing.
 use Rattle.arm_views.specs.Numbers.{start_answer}
-use borrow.Author.Rules.{rules}
 use Rattle.arm_views.proofs.link_start.Goals as goal
 
 pub returns : goal.returns

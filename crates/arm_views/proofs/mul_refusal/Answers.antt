@@ -1,6 +1,5 @@
 -- `mul_refusal`: the same list, each test being the definition's by what its call ensures. Assumes nothing.
 use Rattle.arm_views.specs.Links.{mul_refusal}
-use borrow.Author.Rules.{rules}
 use Rattle.arm_views.proofs.mul_refusal.Goals as goal
 
 pub returns : goal.returns

@@ -1,34 +1,15 @@
 -- `row_view`: an accepted part lies within both rows; refused, it is empty. Assumes nothing.
-use Prim.Native.Nat.{◌+◌, ◌-◌}
+use Prim.Native.Nat.{◌+◌}
 use mathlib.Core.Path.{◌≡◌, ◌∙◌, sym, ap}
-use mathlib.Core.List.{List}
-use lib.ListN.{length, take, drop}
-use lib.Ieee.{Float}
+use lib.ListN.{length}
 use native.Mathlib.Omega.{arith}
-use borrow.Author.Rules.{rules}
 use Rattle.masks.specs.Masks.{dofs_of}
 use Rattle.arm.specs.Arm.{mask_at, start_at}
 use Rattle.arm.proofs.Shape.{links_length}
 use Rattle.arm_views.specs.declared.Role.{Role}
-use Rattle.arm_views.specs.View.{seen, row_of, view_answer}
+use Rattle.arm_views.specs.View.{row_of, view_answer}
 use Rattle.arm_views.proofs.Views.{Within, end_at, seen_some, view_within, view_done}
 use Rattle.arm_views.proofs.row_view.Goals as goal
-
--- ---- seen from where the part's bounds are known
-
--- the part of the row that is asked for is the answer
-viewed : (c : tie.After-dofs) (row : List Float) → row ≡ row_of c.args.role c.args.velocities.now c.args.accelerations.now
-    → seen
-    (take ((c.start_of-start.result + c.dofs.result) - c.start_of-start.result) (drop c.start_of-start.result row))
-    c.view_refusal-number.result
-    ≡ view_answer c.args.arm c.args.role c.args.link c.args.velocities.now c.args.accelerations.now
-viewed c row e =
-    let given = c.args in
-    let number = c.view_refusal-number in
-    let starts = c.start_of-start in
-    let mask = c.mask_at in
-    view_done number.result given.arm given.role given.link given.velocities.now given.accelerations.now row starts.result
-    c.dofs.result mask.result number.ensures c.if-number-ne0.false starts.ensures c.dofs.ensures mask.ensures e
 
 pub returns-then-number-ne0 : goal.returns-then-number-ne0
 unfolding view_answer
@@ -92,9 +73,19 @@ slice_bounds-result-end-in-Accelerations c =
 pub returns-in-Velocities : goal.returns-in-Velocities
 returns-in-Velocities c =
     let given = c.args in
-    viewed c given.velocities.now (ap (λ (r : Role). row_of r given.velocities.now given.accelerations.now) (sym c.enum_told-1.given.1))
+    let number = c.view_refusal-number in
+    let starts = c.start_of-start in
+    let mask = c.mask_at in
+    view_done number.result given.arm given.role given.link given.velocities.now given.accelerations.now given.velocities.now starts.result
+    c.dofs.result mask.result number.ensures c.if-number-ne0.false starts.ensures c.dofs.ensures mask.ensures
+    (ap (λ (r : Role). row_of r given.velocities.now given.accelerations.now) (sym c.in-Velocities.is))
 
 pub returns-in-Accelerations : goal.returns-in-Accelerations
 returns-in-Accelerations c =
     let given = c.args in
-    viewed c given.accelerations.now (ap (λ (r : Role). row_of r given.velocities.now given.accelerations.now) (sym c.enum_told-in-Accelerations-1.given.1))
+    let number = c.view_refusal-number in
+    let starts = c.start_of-start in
+    let mask = c.mask_at in
+    view_done number.result given.arm given.role given.link given.velocities.now given.accelerations.now given.accelerations.now starts.result
+    c.dofs.result mask.result number.ensures c.if-number-ne0.false starts.ensures c.dofs.ensures mask.ensures
+    (ap (λ (r : Role). row_of r given.velocities.now given.accelerations.now) (sym c.in-Accelerations.is))

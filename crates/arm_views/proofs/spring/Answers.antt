@@ -2,7 +2,6 @@
 use Prim.Native.Nat.{◌<◌}
 use mathlib.Core.Path.{◌≡◌, ◌∙◌, sym}
 use native.Mathlib.Omega.{arith}
-use borrow.Author.Rules.{rules}
 use Rattle.arm.specs.Arm.{live_links}
 use Rattle.arm.proofs.Accepted.{live}
 use Rattle.arm.proofs.Shape.{links_length}
@@ -10,8 +9,6 @@ use Rattle.arm_views.specs.Links.{no_spring, spring_refusal, spring_answer, spri
 use Rattle.arm_views.proofs.Accepted.{spring_there}
 use Rattle.arm_views.proofs.Answers.{of_link_lem, spring_none, spring_some}
 use Rattle.arm_views.proofs.spring.Goals as goal
-
--- ---- seen from where the call is accepted
 
 pub returns-then-refusal-ne0 : goal.returns-then-refusal-ne0
 unfolding spring_answer

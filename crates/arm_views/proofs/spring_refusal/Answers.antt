@@ -1,6 +1,5 @@
 -- `spring_refusal`: the same list, each test being the definition's by what its call ensures. Assumes nothing.
 use Rattle.arm_views.specs.Links.{spring_refusal}
-use borrow.Author.Rules.{rules}
 use Rattle.arm_views.proofs.spring_refusal.Goals as goal
 
 pub returns : goal.returns

@@ -1,6 +1,5 @@
 -- `start_refusal`: the same list, each test being the definition's by what its call ensures. Assumes nothing.
 use Rattle.arm_views.specs.Numbers.{start_refusal}
-use borrow.Author.Rules.{rules}
 use Rattle.arm_views.proofs.start_refusal.Goals as goal
 
 pub returns : goal.returns

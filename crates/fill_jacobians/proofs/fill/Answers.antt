@@ -2,7 +2,6 @@
 use mathlib.Core.Path.{◌∙◌}
 use native.Mathlib.Omega.{arith}
 use Rattle.fill_jacobians.proofs.Rows.{force_length, local_row, local_length}
-use borrow.Author.Rules.{rules}
 use Rattle.fill_jacobians.proofs.fill.Goals as goal
 
 pub slice_bounds-sum_up-end : goal.slice_bounds-sum_up-end

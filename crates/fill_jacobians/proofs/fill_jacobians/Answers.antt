@@ -13,7 +13,6 @@ use Rattle.unit_multibody_joint.proofs.Answers.{refused_first}
 use Rattle.fill_jacobians.specs.Sums.{sums_answer}
 use Rattle.fill_jacobians.specs.Fill.{fill_answer, fill_refusal}
 use Rattle.fill_jacobians.proofs.Accepted.{block_inside, block_part, fill_ready}
-use borrow.Author.Rules.{rules}
 use Rattle.fill_jacobians.proofs.fill_jacobians.Goals as goal
 
 pub returns-then-refusal-ne0 : goal.returns-then-refusal-ne0
@@ -29,21 +28,19 @@ pub slice_bounds-fill-start : goal.slice_bounds-fill-start
 slice_bounds-fill-start c =
     let accepted : let a = c.args in fill_refusal a.arm a.link a.force a.tables.now a.mass.now (length a.j.now) (length a.wj.now) ≡ 0 = sym c.fill_refusal-refusal.ensures ∙ c.if-refusal-ne0.false in
     let inside : c.args.link * block_size + block_size ≤ length c.args.tables.now = let a = c.args in block_inside a.arm a.link a.force a.tables.now a.mass.now (length a.j.now) (length a.wj.now) accepted in
-    let k : tie.Else1 = c in omega (arith, inside)
+    omega (arith, inside)
 
 pub slice_bounds-fill-end : goal.slice_bounds-fill-end
 slice_bounds-fill-end c =
     let accepted : let a = c.args in fill_refusal a.arm a.link a.force a.tables.now a.mass.now (length a.j.now) (length a.wj.now) ≡ 0 = sym c.fill_refusal-refusal.ensures ∙ c.if-refusal-ne0.false in
     let inside : c.args.link * block_size + block_size ≤ length c.args.tables.now = let a = c.args in block_inside a.arm a.link a.force a.tables.now a.mass.now (length a.j.now) (length a.wj.now) accepted in
-    let k : tie.Else1 = c in omega (arith, inside)
+    omega (arith, inside)
 
 pub fill-requires : goal.fill-requires
 fill-requires c =
     let accepted : let a = c.args in fill_refusal a.arm a.link a.force a.tables.now a.mass.now (length a.j.now) (length a.wj.now) ≡ 0 = sym c.fill_refusal-refusal.ensures ∙ c.if-refusal-ne0.false in
-    let counted : tie.After-dof-count = c in
-    let k : tie.Else1 = counted.before.before.before in
-    let a = k.args in
-    let n = counted.dof-count in
+    let a = c.args in
+    let n = c.dof_count in
     fill_ready a.arm a.link a.force a.tables.now a.mass.now (length a.j.now) (length a.wj.now) accepted
     n.result (a.link * block_size) (a.link * block_size + block_size) n.ensures refl refl
 
@@ -51,10 +48,8 @@ pub returns : goal.returns
 unfolding fill_answer
 returns c =
     let accepted : let a = c.args in fill_refusal a.arm a.link a.force a.tables.now a.mass.now (length a.j.now) (length a.wj.now) ≡ 0 = sym c.fill_refusal-refusal.ensures ∙ c.if-refusal-ne0.false in
-    let k : tie.Else1 = c in
-    let s = k in
-    let a = s.args in
+    let a = c.args in
     let row = c.row_number-k in
     let n = c.dof_count in
-    let front = row-front a.arm Velocities no_row n.result row.result (rows_length a.arm s.good.0) n.ensures row.ensures in
+    let front = row-front a.arm Velocities no_row n.result row.result (rows_length a.arm c.well_formed.0) n.ensures row.ensures in
     c.fill.ensures ∙ rw (block_part a.link (a.link * block_size) (a.link * block_size + block_size) a.tables.now refl refl, front, n.ensures, accepted)

@@ -1,10 +1,7 @@
 use Rattle.fill_jacobians.proofs.Rows.{force_all, force_more, force_none}
-use Rattle.fill_jacobians.specs.Sums.{force_row}
-use lib.ListN.{length, length-set, take}
-use Prim.Native.Nat.{◌-◌, ◌≤◌}
-use mathlib.Core.Path.{◌∙◌, ◌≡◌, refl}
+use lib.ListN.{length, length-set}
+use mathlib.Core.Path.{◌∙◌, refl}
 use native.Mathlib.Omega.{arith}
-use borrow.Author.Rules.{rules}
 use Rattle.fill_jacobians.proofs.fill_row.Goals as goal
 
 pub loop-c-init : goal.loop-c-init

@@ -1,11 +1,8 @@
 -- `fill_row`: the columns done are the front of the row. Assumes nothing.
-use Rattle.fill_jacobians.proofs.Rows.{force_all, force_more, force_none}
 use Rattle.fill_jacobians.specs.Sums.{force_row}
-use lib.ListN.{length, length-set, take}
+use lib.ListN.{length, take}
 use Prim.Native.Nat.{◌-◌, ◌≤◌}
-use mathlib.Core.Path.{◌∙◌, ◌≡◌, refl}
-use native.Mathlib.Omega.{arith}
-use borrow.Author.Rules.{rules}
+use mathlib.Core.Path.{◌≡◌}
 use Rattle.fill_jacobians.proofs.fill_row.Given as goal
 
 abbrev pub invariant-loop-c : goal.invariant-loop-c

@@ -2,7 +2,6 @@
 use mathlib.Core.Path.{◌∙◌, ap₂, refl, sym}
 use mathlib.Core.Bool.{Bool, ◌&&◌}
 use mathlib.Core.List.{List}
-use borrow.Author.Tests.{not-true, not-false}
 use lib.ListN.{length}
 use lib.Ieee.{Float}
 use Rattle.floats.specs.Floats.{all_finite}
@@ -22,7 +21,7 @@ returns-then-trouble-ne0 c =
     let ran_of : Type 0 = let a = c.args in
     let v = c.solve_any-trouble in
     Ran (length a.row.now) a.row.now a.mass.now v.new.res v.result in
-    let ran : ran_of = let p = c.requires in record { few = p.0; long = refl; matrix = p.1; same = c.solved-2-1.given; left = c.solve_any-trouble.ensures } in
+    let ran : ran_of = let p = c.requires in record { few = p.0; long = refl; matrix = p.1; same = search rules; left = c.solve_any-trouble.ensures } in
     let made : List Float → Sums = λ w. let a = c.args in sums_of a.row.now w (entries_to (length a.row.now) a.velocities) in
     let fine : Sums → Bool = λ x. all_finite c.args.row.now && finite_sums x in
     let a = c.args in
@@ -34,18 +33,14 @@ returns-then-not-fine c =
     let ran_of : Type 0 = let a = c.args in
     let v = c.solve_any-trouble in
     Ran (length a.row.now) a.row.now a.mass.now v.new.res v.result in
-    let ran : ran_of = let p = c.requires in record { few = p.0; long = refl; matrix = p.1; same = c.solved-2-1.given; left = c.solve_any-trouble.ensures } in
+    let ran : ran_of = let p = c.requires in record { few = p.0; long = refl; matrix = p.1; same = search rules; left = c.solve_any-trouble.ensures } in
     let made : List Float → Sums = λ w. let a = c.args in sums_of a.row.now w (entries_to (length a.row.now) a.velocities) in
     let fine : Sums → Bool = λ x. all_finite c.args.row.now && finite_sums x in
-    let wild : tie.Then2 = c in
-    let summed : tie.After-sums-of = wild.before.before.before in
-    let good : tie.Else1 = summed.before.before in
-    let z = good.before in
-    let a = z.args in
-    let sums = summed.sums-of in
-    let tested = ap₂ ◌&&◌ wild.before.before.all-finite.ensures wild.before.are-finite-sums.ensures in
-    not_finite refused_sums fine made ran a.j.now a.wj.now good.if1.false sums.result (sums.ensures ∙ sums_front a.row.now _ _)
-    (sym tested ∙ not-true _ wild.if2.true) c.refused_sums-then-not-fine.result c.refused_sums-then-not-fine.ensures
+    let a = c.args in
+    let sums = c.sums_of-sums in
+    let tested = ap₂ ◌&&◌ c.all_finite.ensures c.are_finite_sums.ensures in
+    not_finite refused_sums fine made ran a.j.now a.wj.now c.if-trouble-ne0.false sums.result (sums.ensures ∙ sums_front a.row.now _ _)
+    (sym tested ∙ c.if-not-fine.true) c.refused_sums-then-not-fine.result c.refused_sums-then-not-fine.ensures
 
 pub returns : goal.returns
 unfolding sums_answer
@@ -53,17 +48,12 @@ returns c =
     let ran_of : Type 0 = let a = c.args in
     let v = c.solve_any-trouble in
     Ran (length a.row.now) a.row.now a.mass.now v.new.res v.result in
-    let ran : ran_of = let p = c.requires in record { few = p.0; long = refl; matrix = p.1; same = c.solved-2-1.given; left = c.solve_any-trouble.ensures } in
+    let ran : ran_of = let p = c.requires in record { few = p.0; long = refl; matrix = p.1; same = search rules; left = c.solve_any-trouble.ensures } in
     let made : List Float → Sums = λ w. let a = c.args in sums_of a.row.now w (entries_to (length a.row.now) a.velocities) in
     let fine : Sums → Bool = λ x. all_finite c.args.row.now && finite_sums x in
-    let finite : tie.Else2 = c in
-    let summed : tie.After-sums-of = finite.before.before.before in
-    let good : tie.Else1 = summed.before.before in
-    let z = good.before in
-    let s = z in
-    let a = s.args in
-    let sums = summed.sums-of in
-    let tested = ap₂ ◌&&◌ finite.before.before.all-finite.ensures finite.before.are-finite-sums.ensures in
-    let y = c.copy_part in
-    all_made refused_sums fine made ran a.j.now a.wj.now good.if1.left sums.result (sums.ensures ∙ sums_front a.row.now _ _)
-    (sym tested ∙ not-false _ finite.if2.left) s.pre.2 s.pre.3 c.copy.new.to y.new.to c.copy.ensures y.ensures
+    let a = c.args in
+    let p = c.requires in
+    let sums = c.sums_of-sums in
+    let tested = ap₂ ◌&&◌ c.all_finite.ensures c.are_finite_sums.ensures in
+    all_made refused_sums fine made ran a.j.now a.wj.now c.if-trouble-ne0.false sums.result (sums.ensures ∙ sums_front a.row.now _ _)
+    (sym tested ∙ c.if-not-fine.false) p.2 p.3 c.copy.new.to c.copy_part.new.to c.copy.ensures c.copy_part.ensures

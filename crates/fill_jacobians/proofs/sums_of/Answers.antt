@@ -1,6 +1,5 @@
 -- `sums_of`: both sums are the definition's. Assumes nothing.
 use Rattle.fill_jacobians.specs.Sums.{sums_of}
-use borrow.Author.Rules.{rules}
 use Rattle.fill_jacobians.proofs.sums_of.Goals as goal
 
 pub returns : goal.returns

@@ -1,6 +1,5 @@
 -- `empty`: tables that are too short stay, others are cleared. Assumes nothing.
 use borrow.Author.Tests.{not-false, not-true}
-use borrow.Author.Rules.{rules}
 use Rattle.full_working.proofs.Emptied.{long, short}
 use Rattle.full_working.proofs.empty.Goals as goal
 

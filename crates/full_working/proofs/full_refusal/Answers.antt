@@ -1,5 +1,4 @@
 -- `full_refusal`: the same list of tests. Assumes nothing.
-use borrow.Author.Rules.{rules}
 use Rattle.full_working.specs.Full.{full_refusal}
 use Rattle.full_working.proofs.full_refusal.Goals as goal
 

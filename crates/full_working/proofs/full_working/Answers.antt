@@ -1,6 +1,5 @@
 -- `full_working`: a refusal, or every link worked out. Assumes nothing.
 use mathlib.Core.Path.{◌∙◌}
-use borrow.Author.Rules.{rules}
 use Rattle.full_working.proofs.Refused.{refused, goes_on}
 use Rattle.full_working.specs.Full.{full_working}
 use Rattle.full_working.proofs.full_working.Goals as goal

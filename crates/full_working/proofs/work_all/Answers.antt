@@ -1,5 +1,4 @@
 -- `work_all`: what the pass over all links left. Assumes nothing.
-use borrow.Author.Rules.{rules}
 use Rattle.full_working.proofs.Passed.{passed_on}
 use Rattle.full_working.specs.Outcome.{worked_all}
 use Rattle.full_working.proofs.work_all.Goals as goal

@@ -5,7 +5,6 @@ use mathlib.Core.Path.{◌∙◌, sym}
 use native.Mathlib.Omega.{arith}
 use Rattle.masks.specs.Masks.{dofs_below, dofs_of}
 use Rattle.masks.proofs.Laws.{below_free, dofs_le}
-use borrow.Author.Rules.{rules}
 use Rattle.kinematics.proofs.add_axis.Goals as goal
 
 -- ---- places, each from a later one

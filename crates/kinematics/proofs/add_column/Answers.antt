@@ -3,7 +3,6 @@ use Rattle.kinematics.specs.Blocks.{column_added}
 use lib.ListN.{length-set}
 use mathlib.Core.Path.{refl}
 use native.Mathlib.Omega.{arith}
-use borrow.Author.Rules.{rules}
 use Rattle.kinematics.proofs.add_column.Goals as goal
 
 pub bounds-block-c-3 : goal.bounds-block-c-3

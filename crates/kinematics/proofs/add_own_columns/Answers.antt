@@ -1,6 +1,5 @@
 -- `add_own_columns` adds axis by axis, in the order of the definition. Assumes nothing.
 use Rattle.kinematics.specs.Blocks.{own_added}
-use borrow.Author.Rules.{rules}
 use Rattle.kinematics.proofs.add_own_columns.Goals as goal
 
 pub returns : goal.returns

@@ -2,13 +2,11 @@ use Rattle.kinematics.specs.Inner.{blocks_of, blocks_laid}
 use Rattle.kinematics.proofs.Laid.{laid_more, laid_none, laid_skip}
 use Rattle.kinematics.specs.State.{marked}
 use lib.ListN.{length}
-use Prim.Native.Nat.{ℕ, ◌+◌, ◌-◌, ◌*◌, ◌≤◌}
-use mathlib.Core.Logic.{⊎_elim}
+use Prim.Native.Nat.{ℕ, ◌+◌, ◌*◌, ◌≤◌}
 use mathlib.Core.Path.{◌∙◌, ◌≡◌, ap, refl}
 use native.Mathlib.Omega.{arith}
 use Rattle.limits.specs.Limits.{block_size}
 use Rattle.floats.proofs.Parts.{copied_fits}
-use borrow.Author.Rules.{rules}
 use Rattle.kinematics.proofs.commit.Goals as goal
 use Rattle.kinematics.proofs.commit.Goals.{then-marks-j, else-marks-j}
 

@@ -6,7 +6,6 @@ use lib.ListN.{length, length-replicate}
 use Rattle.limits.specs.Limits.{block_size}
 use Rattle.floats.specs.Floats.{zero32}
 use Rattle.floats.proofs.Parts.{copied_over}
-use borrow.Author.Rules.{rules}
 use Rattle.kinematics.proofs.copy_kept.Goals as goal
 
 pub returns-then-later : goal.returns-then-later

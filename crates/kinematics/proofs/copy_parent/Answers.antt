@@ -9,7 +9,6 @@ use Rattle.limits.specs.Limits.{block_size}
 use Rattle.floats.specs.Floats.{zero32}
 use Rattle.floats.proofs.Parts.{copied_fits, copied_whole, moved_fits}
 use Rattle.kinematics.specs.Blocks.{zero_block}
-use borrow.Author.Rules.{rules}
 use Rattle.kinematics.proofs.copy_parent.Goals as goal
 
 pub returns-then-fresh : goal.returns-then-fresh

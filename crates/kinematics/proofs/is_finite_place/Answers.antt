@@ -1,6 +1,5 @@
 -- `is_finite_place` tests pose and shifts. Assumes nothing.
 use Rattle.kinematics.specs.Link.{finite_place}
-use borrow.Author.Rules.{rules}
 use Rattle.kinematics.proofs.is_finite_place.Goals as goal
 
 pub returns : goal.returns

@@ -1,6 +1,5 @@
 -- `later_posed` follows the definition. Assumes nothing.
 use Rattle.kinematics.specs.Link.{later_posed}
-use borrow.Author.Rules.{rules}
 use Rattle.kinematics.proofs.later_posed.Goals as goal
 
 pub returns : goal.returns

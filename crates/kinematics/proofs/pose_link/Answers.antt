@@ -1,5 +1,4 @@
 -- `pose_link`: the one or the other. Assumes nothing.
-use borrow.Author.Rules.{rules}
 use Rattle.kinematics.specs.Inner.{posed_of}
 use Rattle.kinematics.proofs.pose_link.Goals as goal
 

@@ -5,7 +5,6 @@ use lib.ListN.{length-replicate}
 use native.Mathlib.Omega.{arith}
 use Rattle.floats.specs.Floats.{zero32}
 use Rattle.limits.specs.Limits.{table_size}
-use borrow.Author.Rules.{rules}
 use Rattle.kinematics.proofs.refresh_all.Goals as goal
 
 pub returns-then-tables-lt-TABLES : goal.returns-then-tables-lt-TABLES

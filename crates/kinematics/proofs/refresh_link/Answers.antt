@@ -1,5 +1,4 @@
 -- `refresh_link` is pose, block, link and test of one link. Assumes nothing.
-use borrow.Author.Rules.{rules}
 use Rattle.kinematics.proofs.refresh_link.Goals as goal
 
 pub returns : goal.returns

@@ -1,6 +1,5 @@
 -- `root_posed` follows the definition. Assumes nothing.
 use Rattle.kinematics.specs.Link.{root_posed}
-use borrow.Author.Rules.{rules}
 use Rattle.kinematics.proofs.root_posed.Goals as goal
 
 pub returns : goal.returns

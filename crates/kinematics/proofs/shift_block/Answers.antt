@@ -1,12 +1,11 @@
 use lib.Ieee.{neg}
 use Rattle.kinematics.proofs.Shift.{columns_done, columns_more, columns_none, columns_to}
 use Rattle.kinematics.specs.Blocks.{plus_times, shifted}
-use lib.ListN.{length, length-set}
-use Prim.Native.Nat.{◌-◌, ◌≤◌, ℕ}
+use lib.ListN.{length-set}
+use Prim.Native.Nat.{ℕ}
 use mathlib.Core.Path.{◌∙◌, ◌≡◌, ap, refl}
 use native.Mathlib.Omega.{arith}
-use Rattle.limits.specs.Limits.{dof_limit, block_size}
-use borrow.Author.Rules.{rules}
+use Rattle.limits.specs.Limits.{dof_limit}
 use Rattle.kinematics.proofs.shift_block.Goals as goal
 
 pub loop-c-init : goal.loop-c-init

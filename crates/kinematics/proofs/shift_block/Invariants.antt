@@ -1,13 +1,10 @@
 -- `shift_block`: the first c columns are done, the rest is as it was. Assumes nothing.
-use lib.Ieee.{neg}
-use Rattle.kinematics.proofs.Shift.{columns_done, columns_more, columns_none, columns_to}
-use Rattle.kinematics.specs.Blocks.{plus_times, shifted}
-use lib.ListN.{length, length-set}
-use Prim.Native.Nat.{◌-◌, ◌≤◌, ℕ}
-use mathlib.Core.Path.{◌∙◌, ◌≡◌, ap, refl}
-use native.Mathlib.Omega.{arith}
+use Rattle.kinematics.proofs.Shift.{columns_to}
+use Rattle.kinematics.specs.Blocks.{plus_times}
+use lib.ListN.{length}
+use Prim.Native.Nat.{◌-◌, ◌≤◌}
+use mathlib.Core.Path.{◌≡◌}
 use Rattle.limits.specs.Limits.{dof_limit, block_size}
-use borrow.Author.Rules.{rules}
 use Rattle.kinematics.proofs.shift_block.Given as goal
 
 abbrev pub invariant-loop-c : goal.invariant-loop-c

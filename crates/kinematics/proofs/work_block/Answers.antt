@@ -1,6 +1,5 @@
 -- `work_block` shifts, adds and shifts, as the definition. Assumes nothing.
 use Rattle.kinematics.specs.Link.{block_from}
-use borrow.Author.Rules.{rules}
 use Rattle.kinematics.proofs.work_block.Goals as goal
 
 pub returns : goal.returns

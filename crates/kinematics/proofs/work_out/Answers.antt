@@ -1,11 +1,10 @@
 use Rattle.arm.specs.Arm.{no_link}
-use Rattle.kinematics.proofs.Turns.{Held, held_all, held_more, held_none, held_skip, start_room}
+use Rattle.kinematics.proofs.Turns.{held_all, held_more, held_none, held_skip, start_room}
 use Rattle.kinematics.specs.State.{marked}
 use lib.ListN.{get_or}
-use Prim.Native.Nat.{◌+◌, ◌-◌, ◌≤◌, ◌<◌}
-use mathlib.Core.Logic.{⊎_elim}
+use Prim.Native.Nat.{◌+◌, ◌≤◌}
 use native.Mathlib.Omega.{arith}
-use Rattle.limits.specs.Limits.{link_limit, dof_limit}
+use Rattle.limits.specs.Limits.{dof_limit}
 use Rattle.masks.proofs.Laws.{dofs_le}
 use borrow.Author.Rules.{rules}
 use Rattle.kinematics.proofs.work_out.Goals as goal

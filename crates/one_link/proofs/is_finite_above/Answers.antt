@@ -6,7 +6,6 @@ use lib.Ieee.{Float}
 use Rattle.floats.specs.Floats.{all_finite}
 use Rattle.kinematics.specs.Blocks.{block_at}
 use Rattle.one_link.specs.Above.{above_finite}
-use borrow.Author.Rules.{rules}
 use Rattle.one_link.proofs.is_finite_above.Goals as goal
 
 later : (link parent : ℕ) (t : List Float) → (link ≡ 0 → ⊥) → all_finite (block_at parent t) ≡ above_finite link parent t

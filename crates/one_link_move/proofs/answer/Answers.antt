@@ -1,7 +1,6 @@
 -- `answer`: the number, and the arm with the links. Assumes nothing.
 use mathlib.Core.Path.{ap}
 use Rattle.arm.specs.declared.Arm.{Arm}
-use borrow.Author.Rules.{rules}
 use Rattle.one_link_move.proofs.answer.Goals as goal
 
 pub returns : goal.returns

@@ -3,10 +3,9 @@ use Rattle.lists.specs.Numbers.{all_below}
 use Rattle.one_link_move.proofs.Leaf.{leaf_more}
 use lib.Seq.{length-take-le}
 use lib.ListN.{length, take}
-use Prim.Native.Nat.{◌-◌, ◌≤◌, ℕ}
+use Prim.Native.Nat.{ℕ}
 use mathlib.Core.Path.{◌∙◌, ◌≡◌, ap, refl}
 use native.Mathlib.Omega.{arith}
-use borrow.Author.Rules.{rules}
 use Rattle.one_link_move.proofs.is_leaf.Goals as goal
 
 pub loop-i-init : goal.loop-i-init
@@ -14,12 +13,11 @@ unfolding all_below
 loop-i-init c = (omega arith, refl)
 
 pub loop-i-preserved : goal.loop-i-preserved
-loop-i-preserved c =
-    (
-      omega arith,
-      leaf_more c.args.parents c.live_links-n.result c.args.link c.loop-i.i _ c.loop-i.ok (omega arith)
-          (omega (arith, c.live_links-n.ensures, c.well_formed.0.1.0.1)) c.loop-i.invariant.1,
-    )
+loop-i-preserved c = (
+  omega arith,
+  leaf_more c.args.parents c.live_links-n.result c.args.link c.loop-i.i _ c.loop-i.ok (omega arith)
+      (omega (arith, c.live_links-n.ensures, c.well_formed.0.1.0.1)) c.loop-i.invariant.1,
+)
 
 pub returns : goal.returns
 returns c =

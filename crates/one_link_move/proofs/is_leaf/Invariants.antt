@@ -1,13 +1,9 @@
 -- `is_leaf`: what is tested so far. Assumes nothing.
-use Rattle.one_link_move.specs.Inner.{leaf, no_child}
+use Rattle.one_link_move.specs.Inner.{no_child}
 use Rattle.lists.specs.Numbers.{all_below}
-use Rattle.one_link_move.proofs.Leaf.{leaf_more}
-use lib.Seq.{length-take-le}
-use lib.ListN.{length, take}
-use Prim.Native.Nat.{◌-◌, ◌≤◌, ℕ}
-use mathlib.Core.Path.{◌∙◌, ◌≡◌, ap, refl}
-use native.Mathlib.Omega.{arith}
-use borrow.Author.Rules.{rules}
+use lib.ListN.{take}
+use Prim.Native.Nat.{◌-◌, ◌≤◌}
+use mathlib.Core.Path.{◌≡◌}
 use Rattle.one_link_move.proofs.is_leaf.Given as goal
 
 abbrev pub invariant-loop-i : goal.invariant-loop-i

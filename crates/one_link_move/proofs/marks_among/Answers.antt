@@ -4,7 +4,6 @@ use mathlib.Core.Path.{◌∙◌, ap, refl}
 use Prim.Native.Nat.{ℕ}
 use Rattle.lists.proofs.Lists.{front}
 use Rattle.topology.specs.Parents.{marks}
-use borrow.Author.Rules.{rules}
 use Rattle.one_link_move.proofs.marks_among.Goals as goal
 
 pub returns : goal.returns

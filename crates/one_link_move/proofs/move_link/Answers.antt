@@ -11,7 +11,6 @@ use lib.ListN.{set}
 use Rattle.arm.proofs.Shape.{links_length}
 use Rattle.full_working.specs.Outcome.{out}
 use Rattle.full_working.proofs.Refused.{refused}
-use borrow.Author.Rules.{rules}
 use Prim.Native.Nat.{◌<◌}
 use Rattle.limits.specs.Limits.{link_limit}
 use Rattle.one_link_move.proofs.move_link.Goals as goal
@@ -52,10 +51,10 @@ pub returns-then-not-t : goal.returns-then-not-t
 returns-then-not-t c =
     let alone : let own = c.args in let r = c.refresh_one-t in
     Ends own.arm r.result.fine (set own.arm.links own.link r.result.link) own.arm.links r.new.tables
-    (link_moved own.arm own.tables.now own.link own.change) =     alone_ends c.args.arm (links_length c.args.arm c.well_formed.0) c.args.tables.now c.args.link
+    (link_moved own.arm own.tables.now own.link own.change) = alone_ends c.args.arm (links_length c.args.arm c.well_formed.0) c.args.tables.now c.args.link
     c.args.change _ c.move_refusal-refusal.ensures c.if-refusal-ne0.false c.handed_in-handed.result
     c.handed_in-handed.ensures _ c.with_change-new.result c.with_change-new.ensures
-    (sym c.is_Is_leaf.ensures ∙ c.if-is_leaf.true) c.fewer-p.result c.fewer-p.ensures _ _ refl
+    (sym c.is_leaf.ensures ∙ c.if-is_leaf.true) c.fewer-p.result c.fewer-p.ensures _ _ refl
     c.start_among.result c.start_among.ensures c.refresh_one-t.result _ c.refresh_one-t.ensures in
     alone.off (not-true c.refresh_one-t.result.fine c.if-not-t.true) _ c.answer-then-not-t.ensures
 
@@ -75,10 +74,10 @@ pub returns-then-is_leaf : goal.returns-then-is_leaf
 returns-then-is_leaf c =
     let alone : let own = c.args in let r = c.refresh_one-t in
     Ends own.arm r.result.fine (set own.arm.links own.link r.result.link) own.arm.links r.new.tables
-    (link_moved own.arm own.tables.now own.link own.change) =     alone_ends c.args.arm (links_length c.args.arm c.well_formed.0) c.args.tables.now c.args.link
+    (link_moved own.arm own.tables.now own.link own.change) = alone_ends c.args.arm (links_length c.args.arm c.well_formed.0) c.args.tables.now c.args.link
     c.args.change _ c.move_refusal-refusal.ensures c.if-refusal-ne0.false c.handed_in-handed.result
     c.handed_in-handed.ensures _ c.with_change-new.result c.with_change-new.ensures
-    (sym c.is_Is_leaf.ensures ∙ c.if-is_leaf.true) c.fewer-p.result c.fewer-p.ensures _ _ refl
+    (sym c.is_leaf.ensures ∙ c.if-is_leaf.true) c.fewer-p.result c.fewer-p.ensures _ _ refl
     c.start_among.result c.start_among.ensures c.refresh_one-t.result _ c.refresh_one-t.ensures in
     alone.on (not-false c.refresh_one-t.result.fine c.if-not-t.false) _ c.answer-then-is_leaf.ensures
 
@@ -98,7 +97,7 @@ pub returns-then-r : goal.returns-then-r
 returns-then-r c =
     let below : let own = c.args in let r = c.refresh_marked-r in
     Ends own.arm r.result.fine r.result.links (set (set own.arm.links own.link c.with_change-new.result) own.link (link_at own.arm.links own.link))
-    r.new.tables (link_moved own.arm own.tables.now own.link own.change) =     below-ends c.args.arm (links_length c.args.arm c.well_formed.0) c.args.tables.now c.args.link
+    r.new.tables (link_moved own.arm own.tables.now own.link own.change) = below-ends c.args.arm (links_length c.args.arm c.well_formed.0) c.args.tables.now c.args.link
     c.args.change _ c.move_refusal-refusal.ensures c.if-refusal-ne0.false c.handed_in-handed.result
     c.handed_in-handed.ensures _ c.with_change-new.result c.with_change-new.ensures
     c.marks_among-marks.result c.marks_among-marks.ensures c.refresh_marked-r.result _ c.refresh_marked-r.ensures in
@@ -120,7 +119,7 @@ pub returns : goal.returns
 returns c =
     let below : let own = c.args in let r = c.refresh_marked-r in
     Ends own.arm r.result.fine r.result.links (set (set own.arm.links own.link c.with_change-new.result) own.link (link_at own.arm.links own.link))
-    r.new.tables (link_moved own.arm own.tables.now own.link own.change) =     below-ends c.args.arm (links_length c.args.arm c.well_formed.0) c.args.tables.now c.args.link
+    r.new.tables (link_moved own.arm own.tables.now own.link own.change) = below-ends c.args.arm (links_length c.args.arm c.well_formed.0) c.args.tables.now c.args.link
     c.args.change _ c.move_refusal-refusal.ensures c.if-refusal-ne0.false c.handed_in-handed.result
     c.handed_in-handed.ensures _ c.with_change-new.result c.with_change-new.ensures
     c.marks_among-marks.result c.marks_among-marks.ensures c.refresh_marked-r.result _ c.refresh_marked-r.ensures in

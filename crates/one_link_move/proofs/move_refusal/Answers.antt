@@ -4,7 +4,6 @@ use Rattle.one_link_move.specs.Move.{move_refusal}
 use Rattle.one_link_move.specs.Inner.{tests_of}
 use Rattle.arm.proofs.Shape.{links_length}
 use Rattle.arm.proofs.Handed.{found_refusal, found_parents, found_mask}
-use borrow.Author.Rules.{rules}
 use Rattle.one_link_move.proofs.move_refusal.Goals as goal
 
 pub returns : goal.returns

@@ -5,7 +5,6 @@ use Prim.Native.Nat.{min}
 use lib.ListN.{take, length-take, get_or-eq_default}
 use lib.Seq.{get_or-take}
 use Rattle.limits.specs.Limits.{link_limit}
-use borrow.Author.Rules.{rules}
 use Rattle.one_link_move.proofs.parent_among.Goals as goal
 
 pub returns-then-link-live_links : goal.returns-then-link-live_links

@@ -1,6 +1,5 @@
 -- `with_coordinate`: no axis, the angle, or a straight one. Assumes nothing.
 use Rattle.one_link_move.proofs.Sets.{no_axis, angle, straight}
-use borrow.Author.Rules.{rules}
 use Rattle.one_link_move.proofs.with_coordinate.Goals as goal
 
 pub returns-then-axis-gt2 : goal.returns-then-axis-gt2

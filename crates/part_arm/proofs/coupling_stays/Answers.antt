@@ -1,5 +1,4 @@
 -- `coupling_stays`: both links go on. Assumes nothing.
-use borrow.Author.Rules.{rules}
 use Rattle.part_arm.specs.Part.{coupling_stays}
 use Rattle.part_arm.proofs.coupling_stays.Goals as goal
 

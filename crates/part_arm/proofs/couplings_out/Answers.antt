@@ -1,15 +1,14 @@
-use mathlib.Core.Logic.{⊎_elim}
 use native.Mathlib.Omega.{arith}
-use mathlib.Core.Path.{◌≡◌, refl, sym, ap, ◌∙◌}
-use Prim.Native.Nat.{min, ◌-◌, ◌≤◌, ◌<◌}
-use borrow.Author.Rules.{rules}
+use mathlib.Core.Path.{refl, sym, ap, ◌∙◌}
+use Prim.Native.Nat.{◌<◌}
 use Rattle.part_arm.specs.Inner.{places_in}
 use Rattle.arm.specs.Empty.{empty_arm}
-use Rattle.lists.proofs.Gathered.{Laid, laid_none, laid_as}
+use Rattle.lists.proofs.Gathered.{laid_none, laid_as}
 use Rattle.arm.specs.declared.Arm.{Arm}
 use Rattle.part_arm.proofs.Turns.{coupling_turn, coupling_room, coupling_stays_lem, coupling_lost, couplings_done}
 use Rattle.limits.specs.Limits.{coupling_limit}
 use Rattle.part_arm.proofs.couplings_out.Goals as goal
+use Rattle.part_arm.proofs.couplings_out.Goals.{then-coupling_stays, else-coupling_stays}
 
 pub loop-i-init : goal.loop-i-init
 loop-i-init c =
@@ -22,19 +21,19 @@ loop-i-init c =
 
 pub offset_bounds-couplings-count : goal.offset_bounds-couplings-count
 offset_bounds-couplings-count c =
-    let room : c.loop-i.count < coupling_limit =     let k = c.loop-i in
+    let room : c.loop-i.count < coupling_limit = let k = c.loop-i in
     coupling_room (places_in c.args.places c.args.k) c.args.arm k.i k.couplings k.count k.invariant.2 (omega arith) in
     omega (arith, room)
 
 pub bounds-couplings-count : goal.bounds-couplings-count
 bounds-couplings-count c =
-    let room : c.loop-i.count < coupling_limit =     let k = c.loop-i in
+    let room : c.loop-i.count < coupling_limit = let k = c.loop-i in
     coupling_room (places_in c.args.places c.args.k) c.args.arm k.i k.couplings k.count k.invariant.2 (omega arith) in
     omega (arith, room)
 
 pub overflow_add-count : goal.overflow_add-count
 overflow_add-count c =
-    let room : c.loop-i.count < coupling_limit =     let k = c.loop-i in
+    let room : c.loop-i.count < coupling_limit = let k = c.loop-i in
     coupling_room (places_in c.args.places c.args.k) c.args.arm k.i k.couplings k.count k.invariant.2 (omega arith) in
     omega (arith, room)
 
@@ -44,15 +43,19 @@ loop-i-preserved c =
     let p = places_in c.args.places c.args.k in
     let a = c.args.arm in
     let stays = c.coupling_stays.ensures in
-    ⊎_elim
-    (λ w. (
-      k.invariant.0,
-      omega arith,
-      coupling_stays_lem p a k.i k.couplings k.count k.invariant.2 (omega arith) w.1.result (sym stays ∙ w.0.taken) w.1.ensures _ _
-          w.2 w.3,
-    ))
-    (λ w. (k.invariant.0, omega arith, coupling_lost p a k.i k.couplings k.count k.invariant.2 (sym stays ∙ w.0.left) _ _ w.1 w.2))
-    c.if-coupling_stays.branch
+    elim c.if-coupling_stays.branch [
+      | then-coupling_stays w ↦ (
+        k.invariant.0,
+        omega arith,
+        coupling_stays_lem p a k.i k.couplings k.count k.invariant.2 (omega arith) w.new_coupling.result (sym stays ∙ w.if-coupling_stays.true)
+            w.new_coupling.ensures _ _ w.couplings-is w.count-is,
+      )
+      | else-coupling_stays w ↦ (
+        k.invariant.0,
+        omega arith,
+        coupling_lost p a k.i k.couplings k.count k.invariant.2 (sym stays ∙ w.if-coupling_stays.false) _ _ w.couplings-is w.count-is,
+      )
+    ]
 
 pub returns : goal.returns
 returns c =

@@ -1,14 +1,10 @@
 -- `couplings_out`: the couplings passed so far that stay stand in front, in order, and the count is theirs. Assumes nothing.
-use mathlib.Core.Logic.{⊎_elim}
-use native.Mathlib.Omega.{arith}
-use mathlib.Core.Path.{◌≡◌, refl, sym, ap, ◌∙◌}
-use Prim.Native.Nat.{min, ◌-◌, ◌≤◌, ◌<◌}
-use borrow.Author.Rules.{rules}
+use mathlib.Core.Path.{◌≡◌}
+use Prim.Native.Nat.{min, ◌-◌, ◌≤◌}
 use Rattle.part_arm.specs.Inner.{places_in}
 use Rattle.arm.specs.Empty.{empty_arm}
-use Rattle.lists.proofs.Gathered.{Laid, laid_none, laid_as}
-use Rattle.arm.specs.declared.Arm.{Arm}
-use Rattle.part_arm.proofs.Turns.{coupling_turn, coupling_room, coupling_stays_lem, coupling_lost, couplings_done}
+use Rattle.lists.proofs.Gathered.{Laid}
+use Rattle.part_arm.proofs.Turns.{coupling_turn}
 use Rattle.limits.specs.Limits.{coupling_limit}
 use Rattle.part_arm.proofs.couplings_out.Given as goal
 

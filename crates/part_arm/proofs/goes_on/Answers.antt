@@ -1,5 +1,4 @@
 -- `goes_on`: here, and no head. Assumes nothing.
-use borrow.Author.Rules.{rules}
 use Rattle.part_arm.proofs.goes_on.Goals as goal
 
 pub returns : goal.returns

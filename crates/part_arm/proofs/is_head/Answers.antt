@@ -1,5 +1,4 @@
 -- `is_head`: the same test. Assumes nothing.
-use borrow.Author.Rules.{rules}
 use Rattle.part_arm.specs.Inner.{head_in}
 use Rattle.part_arm.proofs.is_head.Goals as goal
 

@@ -1,5 +1,4 @@
 -- `is_here`: the same test. Assumes nothing.
-use borrow.Author.Rules.{rules}
 use Rattle.part_arm.specs.Inner.{here_in}
 use Rattle.part_arm.proofs.is_here.Goals as goal
 

@@ -1,16 +1,14 @@
-use mathlib.Core.Logic.{⊎_elim}
 use native.Mathlib.Omega.{arith}
-use mathlib.Core.Path.{◌≡◌, refl, sym, ap, ◌∙◌}
-use Prim.Native.Nat.{◌-◌, ◌≤◌, ◌<◌}
+use mathlib.Core.Path.{refl, sym, ap, ◌∙◌}
+use Prim.Native.Nat.{◌<◌}
 use Rattle.limits.specs.Limits.{link_limit}
-use borrow.Author.Rules.{rules}
 use Rattle.part_arm.specs.Inner.{places_in}
 use Rattle.arm.specs.Empty.{empty_arm}
-use Rattle.lists.proofs.Gathered.{Laid, laid_none, laid_as}
+use Rattle.lists.proofs.Gathered.{laid_none, laid_as}
 use Rattle.arm.specs.declared.Arm.{Arm}
 use Rattle.part_arm.proofs.Turns.{link_turn, link_room, link_here, link_elsewhere, links_done}
-use Rattle.arm.specs.Arm.{live_links}
 use Rattle.part_arm.proofs.links_out.Goals as goal
+use Rattle.part_arm.proofs.links_out.Goals.{then-is_here, else-is_here}
 
 pub loop-j-init : goal.loop-j-init
 loop-j-init c =
@@ -23,19 +21,19 @@ loop-j-init c =
 
 pub offset_bounds-links-count : goal.offset_bounds-links-count
 offset_bounds-links-count c =
-    let room : c.loop-j.count < link_limit =     let k = c.loop-j in
+    let room : c.loop-j.count < link_limit = let k = c.loop-j in
     link_room (places_in c.args.places c.args.k) c.args.arm k.j k.links k.count k.invariant.2 (omega arith) in
     omega (arith, room)
 
 pub bounds-links-count : goal.bounds-links-count
 bounds-links-count c =
-    let room : c.loop-j.count < link_limit =     let k = c.loop-j in
+    let room : c.loop-j.count < link_limit = let k = c.loop-j in
     link_room (places_in c.args.places c.args.k) c.args.arm k.j k.links k.count k.invariant.2 (omega arith) in
     omega (arith, room)
 
 pub overflow_add-count : goal.overflow_add-count
 overflow_add-count c =
-    let room : c.loop-j.count < link_limit =     let k = c.loop-j in
+    let room : c.loop-j.count < link_limit = let k = c.loop-j in
     link_room (places_in c.args.places c.args.k) c.args.arm k.j k.links k.count k.invariant.2 (omega arith) in
     omega (arith, room)
 
@@ -45,15 +43,19 @@ loop-j-preserved c =
     let p = places_in c.args.places c.args.k in
     let a = c.args.arm in
     let here = c.is_here.ensures in
-    ⊎_elim
-    (λ w. (
-      k.invariant.0,
-      omega arith,
-      link_here p a k.j k.links k.count k.invariant.2 (omega arith) w.5.result (sym here ∙ w.0.taken)
-          (cc (w.5.ensures, w.2.ensures, w.4.ensures)) _ _ w.6 w.7,
-    ))
-    (λ w. (k.invariant.0, omega arith, link_elsewhere p a k.j k.links k.count k.invariant.2 (sym here ∙ w.0.left) _ _ w.1 w.2))
-    c.if-is_here.branch
+    elim c.if-is_here.branch [
+      | then-is_here w ↦ (
+        k.invariant.0,
+        omega arith,
+        link_here p a k.j k.links k.count k.invariant.2 (omega arith) w.new_link-new.result (sym here ∙ w.if-is_here.true)
+            (cc (w.new_link-new.ensures, w.is_head.ensures, w.number_in.ensures)) _ _ w.links-is w.count-is,
+      )
+      | else-is_here w ↦ (
+        k.invariant.0,
+        omega arith,
+        link_elsewhere p a k.j k.links k.count k.invariant.2 (sym here ∙ w.if-is_here.false) _ _ w.links-is w.count-is,
+      )
+    ]
 
 pub returns : goal.returns
 returns c =

@@ -1,15 +1,10 @@
 -- `links_out`: the links passed so far that are in the part stand in front, rising, and the count is theirs. Assumes nothing.
-use mathlib.Core.Logic.{⊎_elim}
-use native.Mathlib.Omega.{arith}
-use mathlib.Core.Path.{◌≡◌, refl, sym, ap, ◌∙◌}
-use Prim.Native.Nat.{◌-◌, ◌≤◌, ◌<◌}
-use Rattle.limits.specs.Limits.{link_limit}
-use borrow.Author.Rules.{rules}
+use mathlib.Core.Path.{◌≡◌}
+use Prim.Native.Nat.{◌-◌, ◌≤◌}
 use Rattle.part_arm.specs.Inner.{places_in}
 use Rattle.arm.specs.Empty.{empty_arm}
-use Rattle.lists.proofs.Gathered.{Laid, laid_none, laid_as}
-use Rattle.arm.specs.declared.Arm.{Arm}
-use Rattle.part_arm.proofs.Turns.{link_turn, link_room, link_here, link_elsewhere, links_done}
+use Rattle.lists.proofs.Gathered.{Laid}
+use Rattle.part_arm.proofs.Turns.{link_turn}
 use Rattle.arm.specs.Arm.{live_links}
 use Rattle.part_arm.proofs.links_out.Given as goal
 

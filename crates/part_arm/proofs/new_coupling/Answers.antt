@@ -1,5 +1,4 @@
 -- `new_coupling`: the definition, field by field. Assumes nothing.
-use borrow.Author.Rules.{rules}
 use Rattle.part_arm.specs.Part.{new_coupling}
 use Rattle.part_arm.proofs.new_coupling.Goals as goal
 

@@ -1,5 +1,4 @@
 -- `new_link`: each branch is its case of the definition. Assumes nothing.
-use borrow.Author.Rules.{rules}
 use Rattle.part_arm.specs.Part.{new_link}
 use Rattle.part_arm.proofs.new_link.Goals as goal
 

@@ -1,6 +1,5 @@
 -- `number_in`: what stands in the map, or 255 past it. Assumes nothing.
 use native.Mathlib.Omega.{arith}
-use borrow.Author.Rules.{rules}
 use Rattle.part_arm.proofs.Maps.{number_there, number_past}
 use Rattle.part_arm.proofs.number_in.Goals as goal
 

@@ -1,6 +1,5 @@
 -- `part_arm`: links, couplings and rows put together. Assumes nothing.
 use mathlib.Core.Path.{◌∙◌}
-use borrow.Author.Rules.{rules}
 use Rattle.part_arm.specs.Inner.{places_in}
 use Rattle.part_arm.proofs.Turns.{assembled}
 use Rattle.part_arm.proofs.part_arm.Goals as goal

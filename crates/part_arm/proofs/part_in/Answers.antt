@@ -1,6 +1,5 @@
 -- `part_in`: what stands in the map, or 255 past it. Assumes nothing.
 use native.Mathlib.Omega.{arith}
-use borrow.Author.Rules.{rules}
 use Rattle.part_arm.proofs.Maps.{part_there, part_past}
 use Rattle.part_arm.proofs.part_in.Goals as goal
 

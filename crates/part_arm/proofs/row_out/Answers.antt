@@ -1,28 +1,23 @@
-use mathlib.Core.Logic.{⊎_elim}
 use native.Mathlib.Omega.{arith}
-use mathlib.Core.List.{[]}
-use mathlib.Core.Bool.{cond}
-use mathlib.Core.Path.{◌≡◌, sym, ◌∙◌}
-use Prim.Native.Nat.{◌-◌, ◌≤◌, ◌+◌}
+use mathlib.Core.Path.{sym, ◌∙◌}
+use Prim.Native.Nat.{◌≤◌, ◌+◌}
 use Rattle.limits.specs.Limits.{dof_limit}
 use Rattle.floats.proofs.Parts.{copied_fits}
-use borrow.Author.Rules.{rules}
 use Rattle.part_arm.specs.Inner.{places_in}
 use Rattle.arm.specs.Empty.{blank_row}
-use Rattle.lists.proofs.Gathered.{Laid, laid_none, laid_length}
+use Rattle.lists.proofs.Gathered.{laid_none, laid_length}
 use Rattle.arm.proofs.Live.{start_none}
 use Rattle.arm.proofs.Shape.{links_length, row-length}
 use Rattle.part_arm.proofs.Turns.{row_next, row_room, entries_kept, entries_lost, row_done}
-use Rattle.part_arm.specs.Places.{goes_on}
-use Rattle.arm.specs.Arm.{live_links, start_at, own_part}
 use Rattle.part_arm.proofs.row_out.Goals as goal
+use Rattle.part_arm.proofs.row_out.Goals.{then-goes_on, else-goes_on}
 
 pub loop-j-init : goal.loop-j-init
 loop-j-init c = (c.live_links-n.ensures, omega arith, start_none c.args.arm, omega arith, laid_none _ _)
 
 pub slice_bounds-copy_part-end : goal.slice_bounds-copy_part-end
 slice_bounds-copy_part-end c =
-    let room : c.loop-j.start + c.dofs-d.result ≤ dof_limit =     let k = c.loop-j in
+    let room : c.loop-j.start + c.dofs-d.result ≤ dof_limit = let k = c.loop-j in
     let own = c.args in
     row_room (places_in own.places own.k) own.arm (links_length own.arm c.well_formed.0) own.row.entries (row-length own.row c.well_formed.1.1.1.0)
     k.j c.dofs-d.result _ (omega arith) c.dofs-d.ensures k.start k.invariant.2 in
@@ -32,7 +27,7 @@ slice_bounds-copy_part-end c =
 
 pub overflow_add-at : goal.overflow_add-at
 overflow_add-at c =
-    let room : c.loop-j.start + c.dofs-d.result ≤ dof_limit =     let k = c.loop-j in
+    let room : c.loop-j.start + c.dofs-d.result ≤ dof_limit = let k = c.loop-j in
     let own = c.args in
     row_room (places_in own.places own.k) own.arm (links_length own.arm c.well_formed.0) own.row.entries (row-length own.row c.well_formed.1.1.1.0)
     k.j c.dofs-d.result _ (omega arith) c.dofs-d.ensures k.start k.invariant.2 in
@@ -40,7 +35,7 @@ overflow_add-at c =
 
 pub overflow_add-start : goal.overflow_add-start
 overflow_add-start c =
-    let room : c.loop-j.start + c.dofs-d.result ≤ dof_limit =     let k = c.loop-j in
+    let room : c.loop-j.start + c.dofs-d.result ≤ dof_limit = let k = c.loop-j in
     let own = c.args in
     row_room (places_in own.places own.k) own.arm (links_length own.arm c.well_formed.0) own.row.entries (row-length own.row c.well_formed.1.1.1.0)
     k.j c.dofs-d.result _ (omega arith) c.dofs-d.ensures k.start k.invariant.2 in
@@ -48,7 +43,7 @@ overflow_add-start c =
 
 pub loop-j-preserved : goal.loop-j-preserved
 loop-j-preserved c =
-    let room : c.loop-j.start + c.dofs-d.result ≤ dof_limit =     let k = c.loop-j in
+    let room : c.loop-j.start + c.dofs-d.result ≤ dof_limit = let k = c.loop-j in
     let own = c.args in
     row_room (places_in own.places own.k) own.arm (links_length own.arm c.well_formed.0) own.row.entries (row-length own.row c.well_formed.1.1.1.0)
     k.j c.dofs-d.result _ (omega arith) c.dofs-d.ensures k.start k.invariant.2 in
@@ -63,24 +58,24 @@ loop-j-preserved c =
     let next = row_next p a w old e k.j d.result _ (omega arith) d.ensures k.start k.invariant.2 in
     let copied = copied_fits k.at k.start d.result k.entries old (omega (arith, room, l)) (omega (arith, room, e)) in
     let goes = c.goes_on.ensures in
-    ⊎_elim
-    (λ o. (
-      k.invariant.0,
-      omega arith,
-      next,
-      omega arith,
-      entries_kept p a w old e k.j d.result _ (omega arith) d.ensures k.start k.invariant.2 k.entries k.at k.invariant.4
-          (sym goes ∙ o.0.taken) _ _ (o.5 ∙ o.3.ensures ∙ copied) o.6,
-    ))
-    (λ o. (
-      k.invariant.0,
-      omega arith,
-      next,
-      omega arith,
-      entries_lost p a w old e k.j d.result _ (omega arith) d.ensures k.start k.invariant.2 k.entries k.at k.invariant.4
-          (sym goes ∙ o.0.left) _ _ o.1 o.2,
-    ))
-    c.if-goes_on.branch
+    elim c.if-goes_on.branch [
+      | then-goes_on o ↦ (
+        k.invariant.0,
+        omega arith,
+        next,
+        omega arith,
+        entries_kept p a w old e k.j d.result _ (omega arith) d.ensures k.start k.invariant.2 k.entries k.at k.invariant.4
+            (sym goes ∙ o.if-goes_on.true) _ _ (o.entries-is ∙ o.copy_part.ensures ∙ copied) o.at-is,
+      )
+      | else-goes_on o ↦ (
+        k.invariant.0,
+        omega arith,
+        next,
+        omega arith,
+        entries_lost p a w old e k.j d.result _ (omega arith) d.ensures k.start k.invariant.2 k.entries k.at k.invariant.4
+            (sym goes ∙ o.if-goes_on.false) _ _ o.entries-is o.at-is,
+      )
+    ]
 
 pub returns : goal.returns
 returns c =

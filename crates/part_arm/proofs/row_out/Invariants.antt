@@ -1,19 +1,11 @@
 -- `row_out`: the entries of the links passed so far that go on stand in front, in order; they are no more than the entries passed. Assumes nothing.
-use mathlib.Core.Logic.{⊎_elim}
-use native.Mathlib.Omega.{arith}
 use mathlib.Core.List.{[]}
 use mathlib.Core.Bool.{cond}
-use mathlib.Core.Path.{◌≡◌, sym, ◌∙◌}
-use Prim.Native.Nat.{◌-◌, ◌≤◌, ◌+◌}
-use Rattle.limits.specs.Limits.{dof_limit}
-use Rattle.floats.proofs.Parts.{copied_fits}
-use borrow.Author.Rules.{rules}
+use mathlib.Core.Path.{◌≡◌}
+use Prim.Native.Nat.{◌-◌, ◌≤◌}
 use Rattle.part_arm.specs.Inner.{places_in}
 use Rattle.arm.specs.Empty.{blank_row}
-use Rattle.lists.proofs.Gathered.{Laid, laid_none, laid_length}
-use Rattle.arm.proofs.Live.{start_none}
-use Rattle.arm.proofs.Shape.{links_length, row-length}
-use Rattle.part_arm.proofs.Turns.{row_next, row_room, entries_kept, entries_lost, row_done}
+use Rattle.lists.proofs.Gathered.{Laid}
 use Rattle.part_arm.specs.Places.{goes_on}
 use Rattle.arm.specs.Arm.{live_links, start_at, own_part}
 use Rattle.part_arm.proofs.row_out.Given as goal

@@ -1,9 +1,7 @@
 use native.Mathlib.Omega.{arith}
-use lib.ListN.{length, take, length-map, length-set}
+use lib.ListN.{length, length-map, length-set}
 use mathlib.Core.List.{map, []}
 use mathlib.Core.Path.{◌≡◌, refl, sym, ◌∙◌}
-use Prim.Native.Nat.{◌-◌, ◌≤◌}
-use borrow.Author.Rules.{rules}
 use Rattle.part_arm.specs.Inner.{places_in}
 use Rattle.lists.proofs.Lists.{filled_more, filled_all, map_at}
 use Rattle.arm.proofs.Shape.{rows_length}

@@ -1,13 +1,9 @@
 -- `rows_out`: the rows passed so far are those of the part. Assumes nothing.
-use native.Mathlib.Omega.{arith}
-use lib.ListN.{length, take, length-map, length-set}
-use mathlib.Core.List.{map, []}
-use mathlib.Core.Path.{◌≡◌, refl, sym, ◌∙◌}
+use lib.ListN.{length, take}
+use mathlib.Core.List.{map}
+use mathlib.Core.Path.{◌≡◌}
 use Prim.Native.Nat.{◌-◌, ◌≤◌}
-use borrow.Author.Rules.{rules}
 use Rattle.part_arm.specs.Inner.{places_in}
-use Rattle.lists.proofs.Lists.{filled_more, filled_all, map_at}
-use Rattle.arm.proofs.Shape.{rows_length}
 use Rattle.part_arm.specs.Part.{part_row}
 use Rattle.part_arm.proofs.rows_out.Given as goal
 

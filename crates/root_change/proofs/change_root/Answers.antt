@@ -8,7 +8,6 @@ use Rattle.full_working.specs.Outcome.{Outcome, worked_all}
 use Rattle.full_working.proofs.Refused.{refused, goes_on}
 use Rattle.root_change.specs.declared.Root.{Root}
 use Rattle.root_change.specs.Root.{root_changed, root_refusal, changed_root}
-use borrow.Author.Rules.{rules}
 use Rattle.root_change.proofs.change_root.Goals as goal
 
 done : (a : Arm) (t : List Float) (root : Root) {k : ℕ} → k ≡ root_refusal a t root → k ≡ 0 → {new : Arm} → new ≡ root_changed a root → {o : Outcome}

@@ -1,7 +1,6 @@
 -- `fixed_at`: each branch is its case of the definition. Assumes nothing.
 use borrow.Author.Tests.{eq-eqb, ne_eqb}
 use Rattle.root_change.specs.Root.{root_joint}
-use borrow.Author.Rules.{rules}
 use Rattle.root_change.proofs.fixed_at.Goals as goal
 
 pub returns-then-j-eq7 : goal.returns-then-j-eq7

@@ -1,7 +1,6 @@
 -- `freed`: each branch is its case of the definition. Assumes nothing.
 use borrow.Author.Tests.{eq-eqb, ne_eqb}
 use Rattle.root_change.specs.Root.{root_joint}
-use borrow.Author.Rules.{rules}
 use Rattle.root_change.proofs.freed.Goals as goal
 
 pub returns-then-j-eq0 : goal.returns-then-j-eq0

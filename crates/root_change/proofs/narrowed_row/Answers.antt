@@ -1,7 +1,6 @@
 -- `narrowed_row`: a part of the row is copied among zeros. Assumes nothing.
 use Rattle.arm.proofs.Shape.{row-length}
 use Rattle.root_change.proofs.Rows.{is_narrowed}
-use borrow.Author.Rules.{rules}
 use Rattle.root_change.proofs.narrowed_row.Goals as goal
 
 pub returns : goal.returns

@@ -1,7 +1,6 @@
 -- `root_changed`: the arm with its new root and rows in their places. Assumes nothing.
 use mathlib.Core.Path.{◌∙◌}
 use Rattle.root_change.proofs.Joints.{changed_is}
-use borrow.Author.Rules.{rules}
 use Rattle.root_change.proofs.root_changed.Goals as goal
 
 pub returns : goal.returns

@@ -1,6 +1,5 @@
 -- `root_link`: the link with the joint that `root_joint` gives. Assumes nothing.
 use Rattle.root_change.specs.Root.{root_link}
-use borrow.Author.Rules.{rules}
 use Rattle.root_change.proofs.root_link.Goals as goal
 
 pub returns : goal.returns

@@ -1,7 +1,6 @@
 -- `root_refusal`: the same list, each test being the definition's by what its call ensures. Assumes nothing.
 use mathlib.Core.Path.{◌∙◌}
 use Rattle.root_change.specs.Root.{root_refusal}
-use borrow.Author.Rules.{rules}
 use Rattle.root_change.proofs.root_refusal.Goals as goal
 
 pub returns : goal.returns

@@ -1,6 +1,5 @@
 -- `root_row`: each branch is its case of the definition. Assumes nothing.
 use Rattle.root_change.proofs.Rows.{row_stays, row-wider, row-narrower}
-use borrow.Author.Rules.{rules}
 use Rattle.root_change.proofs.root_row.Goals as goal
 
 pub returns-then-from-to : goal.returns-then-from-to

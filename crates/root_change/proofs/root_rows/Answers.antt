@@ -1,11 +1,9 @@
-use Prim.Native.Nat.{◌-◌, ◌≤◌}
-use mathlib.Core.Path.{◌≡◌, refl, ap, ◌∙◌}
+use mathlib.Core.Path.{refl, ap, ◌∙◌}
 use native.Mathlib.Omega.{arith}
-use lib.ListN.{length, take, length-set}
+use lib.ListN.{length-set}
 use Rattle.arm.proofs.Shape.{rows_length}
-use Rattle.root_change.specs.Root.{root_mask, root_rows}
+use Rattle.root_change.specs.Root.{root_rows}
 use Rattle.root_change.proofs.Rows.{rows_to, rows_more, rows_all}
-use borrow.Author.Rules.{rules}
 use Rattle.root_change.proofs.root_rows.Goals as goal
 
 pub loop-i-init : goal.loop-i-init

@@ -1,12 +1,9 @@
 -- `root_rows`: the first i rows are changed, the others are as they were. Assumes nothing.
 use Prim.Native.Nat.{◌-◌, ◌≤◌}
-use mathlib.Core.Path.{◌≡◌, refl, ap, ◌∙◌}
-use native.Mathlib.Omega.{arith}
-use lib.ListN.{length, take, length-set}
-use Rattle.arm.proofs.Shape.{rows_length}
-use Rattle.root_change.specs.Root.{root_mask, root_rows}
-use Rattle.root_change.proofs.Rows.{rows_to, rows_more, rows_all}
-use borrow.Author.Rules.{rules}
+use mathlib.Core.Path.{◌≡◌}
+use lib.ListN.{length, take}
+use Rattle.root_change.specs.Root.{root_mask}
+use Rattle.root_change.proofs.Rows.{rows_to}
 use Rattle.root_change.proofs.root_rows.Given as goal
 
 abbrev pub invariant-loop-i : goal.invariant-loop-i

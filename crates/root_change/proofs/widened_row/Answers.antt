@@ -1,7 +1,6 @@
 -- `widened_row`: a part of the row is copied among zeros. Assumes nothing.
 use Rattle.arm.proofs.Shape.{row-length}
 use Rattle.root_change.proofs.Rows.{is_widened}
-use borrow.Author.Rules.{rules}
 use Rattle.root_change.proofs.widened_row.Goals as goal
 
 pub returns : goal.returns

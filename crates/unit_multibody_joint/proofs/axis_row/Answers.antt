@@ -27,11 +27,10 @@ offset_bounds-unit-at c =
     × (c.dof_at-at.result < c.dof_count-n.result)
     × (c.dof_count-n.result * c.dof_count-n.result ≤ length c.args.mass.now)
     × (c.dof_count-n.result ≤ length c.args.j.now)
-    × (c.dof_count-n.result ≤ length c.args.wj.now) =     let a = c.args in
-    let accepted : tie.Else1 = c in
-    let k = accepted.before.row-refusal in
+    × (c.dof_count-n.result ≤ length c.args.wj.now) = let a = c.args in
+    let k = c.row_refusal-refusal in
     let count = c.dof_count-n in
-    row-ready a.arm a.link a.axis a.fine a.ordered a.mass.now (length a.j.now) (length a.wj.now) (sym k.ensures ∙ accepted.if1.false)
+    row-ready a.arm a.link a.axis a.fine a.ordered a.mass.now (length a.j.now) (length a.wj.now) (sym k.ensures ∙ c.if-refusal-ne0.false)
     count.result c.dof_at-at.result count.ensures c.dof_at-at.ensures (links_length a.arm c.well_formed.0) in
     let r = ready in search rules
 
@@ -41,11 +40,10 @@ bounds-unit-at c =
     × (c.dof_at-at.result < c.dof_count-n.result)
     × (c.dof_count-n.result * c.dof_count-n.result ≤ length c.args.mass.now)
     × (c.dof_count-n.result ≤ length c.args.j.now)
-    × (c.dof_count-n.result ≤ length c.args.wj.now) =     let a = c.args in
-    let accepted : tie.Else1 = c in
-    let k = accepted.before.row-refusal in
+    × (c.dof_count-n.result ≤ length c.args.wj.now) = let a = c.args in
+    let k = c.row_refusal-refusal in
     let count = c.dof_count-n in
-    row-ready a.arm a.link a.axis a.fine a.ordered a.mass.now (length a.j.now) (length a.wj.now) (sym k.ensures ∙ accepted.if1.false)
+    row-ready a.arm a.link a.axis a.fine a.ordered a.mass.now (length a.j.now) (length a.wj.now) (sym k.ensures ∙ c.if-refusal-ne0.false)
     count.result c.dof_at-at.result count.ensures c.dof_at-at.ensures (links_length a.arm c.well_formed.0) in
     omega (arith, ready)
 
@@ -55,11 +53,10 @@ slice_bounds-constrain-end c =
     × (c.dof_at-at.result < c.dof_count-n.result)
     × (c.dof_count-n.result * c.dof_count-n.result ≤ length c.args.mass.now)
     × (c.dof_count-n.result ≤ length c.args.j.now)
-    × (c.dof_count-n.result ≤ length c.args.wj.now) =     let a = c.args in
-    let accepted : tie.Else1 = c in
-    let k = accepted.before.row-refusal in
+    × (c.dof_count-n.result ≤ length c.args.wj.now) = let a = c.args in
+    let k = c.row_refusal-refusal in
     let count = c.dof_count-n in
-    row-ready a.arm a.link a.axis a.fine a.ordered a.mass.now (length a.j.now) (length a.wj.now) (sym k.ensures ∙ accepted.if1.false)
+    row-ready a.arm a.link a.axis a.fine a.ordered a.mass.now (length a.j.now) (length a.wj.now) (sym k.ensures ∙ c.if-refusal-ne0.false)
     count.result c.dof_at-at.result count.ensures c.dof_at-at.ensures (links_length a.arm c.well_formed.0) in
     simp length-set (omega (arith, ready))
 
@@ -69,11 +66,10 @@ constrain-requires c =
     × (c.dof_at-at.result < c.dof_count-n.result)
     × (c.dof_count-n.result * c.dof_count-n.result ≤ length c.args.mass.now)
     × (c.dof_count-n.result ≤ length c.args.j.now)
-    × (c.dof_count-n.result ≤ length c.args.wj.now) =     let a = c.args in
-    let accepted : tie.Else1 = c in
-    let k = accepted.before.row-refusal in
+    × (c.dof_count-n.result ≤ length c.args.wj.now) = let a = c.args in
+    let k = c.row_refusal-refusal in
     let count = c.dof_count-n in
-    row-ready a.arm a.link a.axis a.fine a.ordered a.mass.now (length a.j.now) (length a.wj.now) (sym k.ensures ∙ accepted.if1.false)
+    row-ready a.arm a.link a.axis a.fine a.ordered a.mass.now (length a.j.now) (length a.wj.now) (sym k.ensures ∙ c.if-refusal-ne0.false)
     count.result c.dof_at-at.result count.ensures c.dof_at-at.ensures (links_length a.arm c.well_formed.0) in
     let r = ready in
     let u = set (replicate dof_limit zero32) c.dof_at-at.result one32 in
@@ -87,16 +83,15 @@ returns c =
     × (c.dof_at-at.result < c.dof_count-n.result)
     × (c.dof_count-n.result * c.dof_count-n.result ≤ length c.args.mass.now)
     × (c.dof_count-n.result ≤ length c.args.j.now)
-    × (c.dof_count-n.result ≤ length c.args.wj.now) =     let a = c.args in
-    let accepted : tie.Else1 = c in
-    let k = accepted.before.row-refusal in
+    × (c.dof_count-n.result ≤ length c.args.wj.now) = let a = c.args in
+    let k = c.row_refusal-refusal in
     let count = c.dof_count-n in
-    row-ready a.arm a.link a.axis a.fine a.ordered a.mass.now (length a.j.now) (length a.wj.now) (sym k.ensures ∙ accepted.if1.false)
+    row-ready a.arm a.link a.axis a.fine a.ordered a.mass.now (length a.j.now) (length a.wj.now) (sym k.ensures ∙ c.if-refusal-ne0.false)
     count.result c.dof_at-at.result count.ensures c.dof_at-at.ensures (links_length a.arm c.well_formed.0) in
     let r = ready in
     let a = c.args in
     let at = c.dof_at-at in
     let count = c.dof_count-n in
     c.constrain.ensures
-    ∙ unit_on a.b a.cfm-coeff _ count.result _ at.result _ _ a.mass.now a.j.now a.wj.now (sym c.row_refusal-refusal.ensures ∙ c.if-refusal-ne0.false)
+    ∙ unit_on a.b a.cfm_coeff _ count.result _ at.result _ _ a.mass.now a.j.now a.wj.now (sym c.row_refusal-refusal.ensures ∙ c.if-refusal-ne0.false)
     count.ensures at.ensures (unit_front count.result dof_limit at.result r.0 r.1)

@@ -1,7 +1,6 @@
 -- `constrain`: the local WJ is the definition's; each way out is its case of the refusals after the tests. Assumes nothing.
 use mathlib.Core.Path.{◌≡◌, ◌∙◌, ap, refl, sym}
 use mathlib.Core.List.{List}
-use borrow.Author.Tests.{not-true, not-false}
 use lib.ListN.{length, take, get_or}
 use lib.Ieee.{Float, nan}
 use lib.Seq.{get_or-take}
@@ -19,50 +18,42 @@ returns-then-trouble-ne0 c =
     let ran_of : Type 0 = let a = c.args in
     let v = c.solve_any-trouble in
     Ran (length a.row.now) a.row.now a.mass.now v.new.res v.result in
-    let ran : ran_of = let p = c.requires in record { few = p.0; long = refl; matrix = p.2; same = c.solved-2-1.given; left = c.solve_any-trouble.ensures } in
-    let made : List Float → ConstraintRow = λ w. let a = c.args in row_of a.b a.cfm-coeff (lhs_at a.at w) in
+    let ran : ran_of = let p = c.requires in record { few = p.0; long = refl; matrix = p.2; same = search rules; left = c.solve_any-trouble.ensures } in
+    let made : List Float → ConstraintRow = λ w. let a = c.args in row_of a.b a.cfm_coeff (lhs_at a.at w) in
     let a = c.args in
     in_trouble refused_row finite_row made ran a.j.now a.wj.now c.if-trouble-ne0.true c.refused_row.result c.refused_row.ensures
 
 pub returns-then-not-is_finite_row : goal.returns-then-not-is_finite_row
-unfolding row_answer
-unfolding lhs_at
+unfolding row_answer lhs_at
 returns-then-not-is_finite_row c =
     let ran_of : Type 0 = let a = c.args in
     let v = c.solve_any-trouble in
     Ran (length a.row.now) a.row.now a.mass.now v.new.res v.result in
-    let ran : ran_of = let p = c.requires in record { few = p.0; long = refl; matrix = p.2; same = c.solved-2-1.given; left = c.solve_any-trouble.ensures } in
-    let made : List Float → ConstraintRow = λ w. let a = c.args in row_of a.b a.cfm-coeff (lhs_at a.at w) in
+    let ran : ran_of = let p = c.requires in record { few = p.0; long = refl; matrix = p.2; same = search rules; left = c.solve_any-trouble.ensures } in
+    let made : List Float → ConstraintRow = λ w. let a = c.args in row_of a.b a.cfm_coeff (lhs_at a.at w) in
     let read : let a = c.args in
     let z = c.solve_any-trouble.new.res in
-    row_of a.b a.cfm-coeff (get_or z a.at nan) ≡ made (take (length a.row.now) z) =     let a = c.args in
-    ap (row_of a.b a.cfm-coeff) (sym (get_or-take (length a.row.now) c.solve_any-trouble.new.res a.at nan c.requires.1)) in
+    row_of a.b a.cfm_coeff (get_or z a.at nan) ≡ made (take (length a.row.now) z) = let a = c.args in
+    ap (row_of a.b a.cfm_coeff) (sym (get_or-take (length a.row.now) c.solve_any-trouble.new.res a.at nan c.requires.1)) in
     let r = c.row_of-made in
-    let good : tie.Else1 = c in
-    let z = good.before in
-    let a = z.args in
-    not_finite refused_row finite_row made ran a.j.now a.wj.now good.if1.false r.result (r.ensures ∙ read)
-    (sym c.is_finite_row.ensures ∙ not-true _ c.if-not-is_finite_row.true-raw) c.refused_row-then-not-is_finite_row.result c.refused_row-then-not-is_finite_row.ensures
+    let a = c.args in
+    not_finite refused_row finite_row made ran a.j.now a.wj.now c.if-trouble-ne0.false r.result (r.ensures ∙ read)
+    (sym c.is_finite_row.ensures ∙ c.if-not-is_finite_row.true) c.refused_row-then-not-is_finite_row.result c.refused_row-then-not-is_finite_row.ensures
 
 pub returns : goal.returns
-unfolding row_answer
-unfolding lhs_at
+unfolding row_answer lhs_at
 returns c =
     let ran_of : Type 0 = let a = c.args in
     let v = c.solve_any-trouble in
     Ran (length a.row.now) a.row.now a.mass.now v.new.res v.result in
-    let ran : ran_of = let p = c.requires in record { few = p.0; long = refl; matrix = p.2; same = c.solved-2-1.given; left = c.solve_any-trouble.ensures } in
-    let made : List Float → ConstraintRow = λ w. let a = c.args in row_of a.b a.cfm-coeff (lhs_at a.at w) in
+    let ran : ran_of = let p = c.requires in record { few = p.0; long = refl; matrix = p.2; same = search rules; left = c.solve_any-trouble.ensures } in
+    let made : List Float → ConstraintRow = λ w. let a = c.args in row_of a.b a.cfm_coeff (lhs_at a.at w) in
     let read : let a = c.args in
     let z = c.solve_any-trouble.new.res in
-    row_of a.b a.cfm-coeff (get_or z a.at nan) ≡ made (take (length a.row.now) z) =     let a = c.args in
-    ap (row_of a.b a.cfm-coeff) (sym (get_or-take (length a.row.now) c.solve_any-trouble.new.res a.at nan c.requires.1)) in
-    let finite : tie.Else2 = c in
-    let r = finite.before.before.row-of in
-    let good : tie.Else1 = finite.before.before.before in
-    let z = good.before in
-    let s = z in
-    let a = s.args in
-    let y = c.copy_part in
-    all_made refused_row finite_row made ran a.j.now a.wj.now good.if1.left r.result (r.ensures ∙ read)
-    (sym finite.before.is-finite-row.ensures ∙ not-false _ finite.if2.left) s.pre.3 s.pre.4 c.copy.new.to y.new.to c.copy.ensures y.ensures
+    row_of a.b a.cfm_coeff (get_or z a.at nan) ≡ made (take (length a.row.now) z) = let a = c.args in
+    ap (row_of a.b a.cfm_coeff) (sym (get_or-take (length a.row.now) c.solve_any-trouble.new.res a.at nan c.requires.1)) in
+    let r = c.row_of-made in
+    let a = c.args in
+    let p = c.requires in
+    all_made refused_row finite_row made ran a.j.now a.wj.now c.if-trouble-ne0.false r.result (r.ensures ∙ read)
+    (sym c.is_finite_row.ensures ∙ c.if-not-is_finite_row.false) p.3 p.4 c.copy.new.to c.copy_part.new.to c.copy.ensures c.copy_part.ensures

@@ -8,7 +8,6 @@ use Rattle.arm.proofs.Shape.{rows_length}
 use Rattle.arm.proofs.Sized.{sized}
 use Rattle.arm.proofs.Live.{dof_count_le}
 use Rattle.unit_multibody_joint.proofs.Rows.{entries_length, friction_is}
-use borrow.Author.Rules.{rules}
 use Rattle.unit_multibody_joint.proofs.friction_at.Goals as goal
 
 abbrev no_row : Row

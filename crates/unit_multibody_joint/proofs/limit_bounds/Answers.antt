@@ -1,5 +1,4 @@
 -- `limit_bounds`: the definition, from what its parts give. Assumes nothing.
-use borrow.Author.Rules.{rules}
 use Rattle.unit_multibody_joint.specs.Rows.{limit_bounds}
 use Rattle.unit_multibody_joint.proofs.limit_bounds.Goals as goal
 

@@ -1,5 +1,4 @@
 -- `memory_fits`: the definition, test by test. Assumes nothing.
-use borrow.Author.Rules.{rules}
 use Rattle.unit_multibody_joint.proofs.memory_fits.Goals as goal
 
 pub returns : goal.returns

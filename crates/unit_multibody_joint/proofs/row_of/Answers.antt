@@ -1,5 +1,4 @@
 -- `row_of`: the definition, from what its parts give. Assumes nothing.
-use borrow.Author.Rules.{rules}
 use Rattle.unit_multibody_joint.specs.Rows.{row_of}
 use Rattle.unit_multibody_joint.proofs.row_of.Goals as goal
 

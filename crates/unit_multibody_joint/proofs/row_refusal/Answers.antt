@@ -5,7 +5,6 @@ use Rattle.limits.specs.Limits.{dof_limit}
 use Rattle.elimination.proofs.Rows.{square_mono}
 use Rattle.arm.proofs.Live.{dof_count_le}
 use Rattle.unit_multibody_joint.specs.Refusals.{row_refusal}
-use borrow.Author.Rules.{rules}
 use Rattle.unit_multibody_joint.proofs.row_refusal.Goals as goal
 
 pub overflow_mul-n : goal.overflow_mul-n

@@ -3,7 +3,6 @@ use Prim.Native.Nat.{ℕ}
 use mathlib.Core.Path.{◌≡◌, ap, ◌∙◌}
 use mathlib.Core.List.{List}
 use lib.Ieee.{Float}
-use borrow.Author.Rules.{rules}
 use Rattle.arm.specs.declared.Arm.{Arm}
 use Rattle.full_working.specs.Outcome.{Outcome, says, worked_all}
 use Rattle.full_working.proofs.Refused.{refused, goes_on}

@@ -1,7 +1,6 @@
 -- `step_arm`: the arm with the links that the velocities' row gives. Assumes nothing.
 use mathlib.Core.Path.{◌∙◌}
 use Rattle.whole_step.proofs.Links.{stepped}
-use borrow.Author.Rules.{rules}
 use Rattle.whole_step.proofs.step_arm.Goals as goal
 
 pub returns : goal.returns

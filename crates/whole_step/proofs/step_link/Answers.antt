@@ -1,6 +1,5 @@
 -- `step_link`: the link with the joint that `integrate` gives. Assumes nothing.
 use Rattle.whole_step.specs.Step.{link_integrated}
-use borrow.Author.Rules.{rules}
 use Rattle.whole_step.proofs.step_link.Goals as goal
 
 pub returns : goal.returns

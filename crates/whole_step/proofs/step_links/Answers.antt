@@ -1,10 +1,8 @@
-use Prim.Native.Nat.{◌-◌}
 use mathlib.Core.Path.{◌∙◌}
 use native.Mathlib.Omega.{arith}
-use borrow.Author.Rules.{rules}
 use Rattle.arm.proofs.Shape.{links_length, row-length}
 use Rattle.arm.proofs.Live.{dofs_small}
-use Rattle.whole_step.proofs.Links.{Held, held_none, start_small, held_more, held_all, rest_from}
+use Rattle.whole_step.proofs.Links.{held_none, start_small, held_more, held_all, rest_from}
 use Rattle.whole_step.proofs.step_links.Goals as goal
 
 pub loop-i-init : goal.loop-i-init

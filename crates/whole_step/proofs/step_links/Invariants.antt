@@ -1,11 +1,6 @@
 -- `step_links`: the loop integrates link after link, and the start runs along. Assumes nothing.
 use Prim.Native.Nat.{◌-◌}
-use mathlib.Core.Path.{◌∙◌}
-use native.Mathlib.Omega.{arith}
-use borrow.Author.Rules.{rules}
-use Rattle.arm.proofs.Shape.{links_length, row-length}
-use Rattle.arm.proofs.Live.{dofs_small}
-use Rattle.whole_step.proofs.Links.{Held, held_none, start_small, held_more, held_all, rest_from}
+use Rattle.whole_step.proofs.Links.{Held}
 use Rattle.whole_step.proofs.step_links.Given as goal
 
 abbrev pub invariant-loop-i : goal.invariant-loop-i

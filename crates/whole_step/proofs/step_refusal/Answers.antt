@@ -2,7 +2,6 @@
 use mathlib.Core.Path.{◌∙◌}
 use Rattle.whole_step.specs.Step.{step_refusal}
 use Rattle.whole_step.specs.Inner.{step_tests_of}
-use borrow.Author.Rules.{rules}
 use Rattle.whole_step.proofs.step_refusal.Goals as goal
 
 pub returns : goal.returns

@@ -1,18 +1,10 @@
 -- `step_tests`: what is tested so far, with what is left, is the whole test. Assumes nothing.
-use Prim.Native.Nat.{ℕ, ◌-◌, ◌≤◌}
-use mathlib.Core.Path.{◌≡◌, refl}
-use mathlib.Core.Bool.{Bool}
-use native.Mathlib.Omega.{arith}
-use lib.ListN.{length, take}
-use borrow.Author.Rules.{rules}
-use Rattle.whole_step.specs.Inner.{step_tests_of}
-use Rattle.lists.proofs.Every.{Tested, front_more, front_all}
-use Rattle.limits.specs.Limits.{link_limit}
-use Rattle.arm.specs.declared.Arm.{Arm}
-use Rattle.arm.specs.Arm.{live_links, links_of}
+use Prim.Native.Nat.{◌-◌, ◌≤◌}
+use mathlib.Core.Path.{◌≡◌}
+use lib.ListN.{take}
+use Rattle.lists.proofs.Every.{Tested}
+use Rattle.arm.specs.Arm.{live_links}
 use Rattle.arm.specs.HandedIn.{link_angle_fits}
-use Rattle.arm.proofs.Shape.{links_length}
-use Rattle.whole_step.specs.declared.StepTests.{StepTests}
 use Rattle.whole_step.specs.Step.{link_joint_finite}
 use Rattle.whole_step.proofs.step_tests.Given as goal
 
