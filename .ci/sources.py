@@ -14,9 +14,9 @@ def read(path):
 
 @functools.cache
 def used(path):
-    """The definitions that a file names in its `use` lines: name there -> (file, name there)."""
+    """The definitions of this repository that a file names in its `use` lines: name there -> (file, name there)."""
     found = {}
-    for crate, module, names in re.findall(r"\buse Rattle·(\w+?)(?:·specs)?\.specs\.((?!declared)[\w.]+)\.\{([^}]*)\}", read(path)):
+    for crate, module, names in re.findall(r"\buse Rattle\.(?!std\.)(\w+)\.specs\.((?!declared)[\w.]+)\.\{([^}]*)\}", read(path)):
         for name in names.split(","):
             old, _, new = name.strip().partition(" as ")
             found[new or old] = f"crates/{crate}/specs/{module.replace('.', '/')}.antt", old
