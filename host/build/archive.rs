@@ -4,8 +4,10 @@
 use crate::sources::Sources;
 use crate::stop::stop;
 use crate::{kit, sha256};
+use std::env;
 use std::fmt;
 use std::fs;
+use std::io::Write;
 use std::path::{Path, PathBuf};
 use std::process;
 
@@ -90,7 +92,8 @@ impl Archive {
 
     fn make(&self, root: &Path, folder: &Path, sources: &Sources, toolchain: &str) {
         let (file, stamp) = self.files(folder);
-        let parts: Vec<PathBuf> = self.crates.iter().map(|name| kit::staticlib(root, name)).collect();
+        let begins = |name: &str| tell(&sources.place(name));
+        let parts: Vec<PathBuf> = self.crates.iter().map(|name| kit::lib(root, name, begins)).collect();
         let made = folder.join(format!("made.{}", process::id()));
         let _ = fs::remove_file(&made);
         kit::join(&parts, &made);
@@ -107,6 +110,16 @@ impl Archive {
         fs::write(&made, text.to_string())
             .unwrap_or_else(|why| stop(&format!("{} can't be written: {why}", made.display())));
         put(&made, &stamp);
+    }
+}
+
+/// Tells whoever builds how far it is, where he has named a place for that in `GIELLAVOR_TELL`: cargo keeps what a build script prints to itself.
+fn tell(words: &str) {
+    let place = env::var_os("GIELLAVOR_TELL");
+    let place = place.and_then(|place| fs::OpenOptions::new().append(true).open(place).ok());
+    if let Some(mut place) = place {
+        // Whether anybody reads it is nothing to the build.
+        let _ = writeln!(place, "{words}");
     }
 }
 

@@ -1,4 +1,4 @@
-//! Links the proved archives, and makes those with `rt staticlib` that aren't there or aren't made of what stands in the repository.
+//! Links the proved archives, and makes those with `rt lib` that aren't there or aren't made of what stands in the repository.
 
 mod archive;
 mod kit;
@@ -17,7 +17,7 @@ use stop::stop;
 /// The calls of the library.
 const CALLS: Archive = Archive {
     name: "giellavor",
-    crates: &["plugin", "exports", "exports_views", "sizes"],
+    crates: &["plugin", "exports", "exports_views_c", "sizes"],
 };
 
 /// What the tests of the layouts and `bench/` call, each by the feature of that name.
@@ -46,7 +46,6 @@ fn main() {
     println!("cargo::rerun-if-changed=build");
     println!("cargo::rerun-if-changed={}", root.join("crates.txt").display());
     println!("cargo::rerun-if-env-changed=PATH");
-    println!("cargo::rerun-if-env-changed=RATTLE_HOME");
     println!("cargo::rustc-link-search=native={}", folder.display());
     if let Some(rt) = kit::rt() {
         println!("cargo::rerun-if-changed={}", rt.display());

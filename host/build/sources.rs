@@ -10,7 +10,9 @@ use std::path::{Path, PathBuf};
 const PARTS: [&str; 3] = ["src", "specs", "proofs"];
 
 pub struct Sources {
-    /// The folders of the crates.
+    /// The crates, in the order of crates.txt, in which each stands behind those that it uses.
+    pub crates: Vec<String>,
+    /// The folders of their files.
     pub folders: Vec<PathBuf>,
     /// The sum over their lines of crates.txt and over the names and contents of their files.
     pub sum: String,
@@ -20,45 +22,60 @@ impl Sources {
     pub fn of(root: &Path, joined: &[&str]) -> Sources {
         let list = fs::read_to_string(root.join("crates.txt"))
             .unwrap_or_else(|why| stop(&format!("crates.txt can't be read: {why}")));
-        let crates = listed(&list);
-        let used = used(&crates, joined);
+        let listed = listed(&list);
+        let used = used(&listed, joined);
         let mut text = format!("{joined:?}").into_bytes();
+        let mut crates = vec![];
         let mut folders = vec![];
-        for (name, uses) in crates.iter().filter(|(name, _)| used.contains(name)) {
-            text.extend(format!("\n{name}: {uses:?}").into_bytes());
-            let folder = root.join("crates").join(name);
-            for part in PARTS {
-                add_files(&mut text, root, &folder.join(part));
+        for Listed { name, kind, uses } in listed.iter().filter(|of| used.contains(of.name)) {
+            text.extend(format!("\n{name} {kind}: {uses:?}").into_bytes());
+            let parts = PARTS.map(|part| root.join("crates").join(name).join(part));
+            for part in parts.into_iter().filter(|part| part.is_dir()) {
+                add_files(&mut text, root, &part);
+                folders.push(part);
             }
-            folders.push(folder);
+            crates.push(name.to_string());
         }
         Sources {
+            crates,
             folders,
             sum: sha256::sum(&text),
         }
     }
+
+    /// Which of the crates it is, in words.
+    pub fn place(&self, name: &str) -> String {
+        let at = self.crates.iter().position(|known| known == name);
+        let at = at.map_or("?".to_string(), |at| (at + 1).to_string());
+        format!("{at} of {}: {name}", self.crates.len())
+    }
 }
 
-/// The lines of crates.txt: a crate and what it uses.
-fn listed(list: &str) -> Vec<(&str, Vec<&str>)> {
+/// A line of crates.txt: a crate, what it is beside a library, and what it uses.
+struct Listed<'a> {
+    name: &'a str,
+    kind: &'a str,
+    uses: Vec<&'a str>,
+}
+
+fn listed(list: &str) -> Vec<Listed<'_>> {
     list.lines()
         .filter_map(|line| line.split('#').next()?.split_once(':'))
-        .map(|(name, uses)| (name.trim(), uses.split_whitespace().collect()))
+        .map(|(head, uses)| {
+            let (name, kind) = head.trim().split_once(' ').unwrap_or((head.trim(), ""));
+            let uses = uses.split_whitespace().collect();
+            Listed { name, kind, uses }
+        })
         .collect()
 }
 
-/// The crates and all that they use, of this repository or of the toolchain.
-fn used<'a>(crates: &[(&'a str, Vec<&'a str>)], joined: &[&'a str]) -> BTreeSet<&'a str> {
+/// The crates and all that they use.
+fn used<'a>(listed: &[Listed<'a>], joined: &[&'a str]) -> BTreeSet<&'a str> {
     let mut found = BTreeSet::new();
     let mut open = joined.to_vec();
     while let Some(name) = open.pop() {
         if found.insert(name) {
-            open.extend(
-                crates
-                    .iter()
-                    .filter(|(listed, _)| *listed == name)
-                    .flat_map(|(_, uses)| uses),
-            );
+            open.extend(listed.iter().filter(|of| of.name == name).flat_map(|of| &of.uses));
         }
     }
     found

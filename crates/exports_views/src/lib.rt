@@ -1,5 +1,5 @@
-// The entry points that read an arm, a mask or a bare list, as C functions for Rust. Each is its entry point and nothing more: the contract cites the
-// same definition. An arm goes in by value; a part of a lent row comes back as offset and length.
+// The entry points that read an arm, a mask or a bare list, as `exports_views_c` exports them for Rust and C. Each is its entry point and nothing more: the
+// contract cites the same definition. An arm goes in by value; a part of a lent row comes back as offset and length.
 #![tactic(auto)]
 
 ghost use Rattle.std.specs.Prelude.{◌≡◌};
@@ -27,24 +27,21 @@ use unit_multibody_joint::{ConstraintRow, Limits};
 // ---- Masks and bare lists
 
 // Is an axis of a mask free? The count is 1 or 0. Refused: 5.
-#[unsafe(no_mangle)]
-pub extern "C" fn giellavor_free_axis(mask: u32, axis: u32) -> Counted
+pub fn giellavor_free_axis(mask: u32, axis: u32) -> Counted
     ensures { result ≡ free_answer mask axis }
 {
     masks::free_axis(mask, axis)
 }
 
 // The DoFs of a mask below an axis. Refused: 5.
-#[unsafe(no_mangle)]
-pub extern "C" fn giellavor_dof_count_below(mask: u32, axis: u32) -> Counted
+pub fn giellavor_dof_count_below(mask: u32, axis: u32) -> Counted
     ensures { result ≡ below_answer mask axis }
 {
     masks::dof_count_below(mask, axis)
 }
 
 // The links from the root to a link of a list of parents, a byte each into `to`; returned is their count. Refused: 1, 2, 4.
-#[unsafe(no_mangle)]
-pub extern "C" fn giellavor_branch(parents: &[u8], link: u32, to: &mut [u8]) -> Counted
+pub fn giellavor_branch(parents: &[u8], link: u32, to: &mut [u8]) -> Counted
     ensures { out result to.new ≡ branch_answer parents.now link to.old }
 {
     topology::kinematic_branch(parents, link as usize, to)
@@ -53,16 +50,14 @@ pub extern "C" fn giellavor_branch(parents: &[u8], link: u32, to: &mut [u8]) -> 
 // ---- Counts
 
 // The start of a link. Refused: 2 to 5, 7, 9.
-#[unsafe(no_mangle)]
-pub extern "C" fn giellavor_link_start(arm: Arm, link: u32) -> Counted
+pub fn giellavor_link_start(arm: Arm, link: u32) -> Counted
     ensures { result ≡ start_answer arm link }
 {
     arm_views::link_start(arm, link)
 }
 
 // The DoF count of an arm. Refused: 2 to 5, 7, 9.
-#[unsafe(no_mangle)]
-pub extern "C" fn giellavor_arm_dofs(arm: Arm) -> Counted
+pub fn giellavor_arm_dofs(arm: Arm) -> Counted
     ensures { result ≡ dofs_answer arm }
 {
     arm_views::arm_dofs(arm)
@@ -71,20 +66,14 @@ pub extern "C" fn giellavor_arm_dofs(arm: Arm) -> Counted
 // ---- Joints
 
 // The spring of an axis, locked or not. Refused: 2 to 5, 7, 9.
-#[unsafe(no_mangle)]
-pub extern "C" fn giellavor_spring(arm: Arm, link: u32, axis: u32) -> SpringAnswer
+pub fn giellavor_spring(arm: Arm, link: u32, axis: u32) -> SpringAnswer
     ensures { result ≡ spring_answer arm link axis }
 {
     arm_views::spring(arm, link, axis)
 }
 
 // The accelerations of a link's joint, which begin with the link's own, put on their axes. Refused: 1 to 5, 7, 9.
-#[unsafe(no_mangle)]
-pub extern "C" fn giellavor_jacobian_mul_coordinates(
-    arm: Arm,
-    link: u32,
-    accelerations: &[f32],
-) -> AxesAnswer
+pub fn giellavor_jacobian_mul_coordinates(arm: Arm, link: u32, accelerations: &[f32]) -> AxesAnswer
     ensures { result ≡ mul_answer arm link accelerations.now }
 {
     arm_views::jacobian_mul_coordinates(arm, link, accelerations)
@@ -93,8 +82,7 @@ pub extern "C" fn giellavor_jacobian_mul_coordinates(
 // ---- The tree
 
 // The links from the root to a link, a byte each into `to`; returned is their count. Refused: 1 to 5, 7, 9.
-#[unsafe(no_mangle)]
-pub extern "C" fn giellavor_kinematic_branch(arm: Arm, link: u32, to: &mut [u8]) -> Counted
+pub fn giellavor_kinematic_branch(arm: Arm, link: u32, to: &mut [u8]) -> Counted
     ensures { out result to.new ≡ arm_branch arm link to.old }
 {
     arm_views::kinematic_branch(arm, link, to)
@@ -102,16 +90,14 @@ pub extern "C" fn giellavor_kinematic_branch(arm: Arm, link: u32, to: &mut [u8])
 
 // A link is deleted: part and new number of each link, two bytes a link into `map`, 255 and 255 for the deleted one; returned is the part count.
 // Refused: 1 to 5, 7, 9.
-#[unsafe(no_mangle)]
-pub extern "C" fn giellavor_arm_split_delete(arm: Arm, link: u32, map: &mut [u8]) -> Counted
+pub fn giellavor_arm_split_delete(arm: Arm, link: u32, map: &mut [u8]) -> Counted
     ensures { out result map.new ≡ arm_split arm (Delete link) map.old }
 {
     split(arm, Split::Delete(link as usize), map)
 }
 
 // A link's joint is cut. The rest as above.
-#[unsafe(no_mangle)]
-pub extern "C" fn giellavor_arm_split_cut(arm: Arm, link: u32, map: &mut [u8]) -> Counted
+pub fn giellavor_arm_split_cut(arm: Arm, link: u32, map: &mut [u8]) -> Counted
     ensures { out result map.new ≡ arm_split arm (Cut link) map.old }
 {
     split(arm, Split::Cut(link as usize), map)
@@ -155,8 +141,7 @@ fn row_part<'a>(
 }
 
 // A link's own part of the velocities. No lent float is read. Refused: 1 to 5, 7, 9.
-#[unsafe(no_mangle)]
-pub extern "C" fn giellavor_view_velocities<'a>(
+pub fn giellavor_view_velocities<'a>(
     arm: Arm,
     link: u32,
     velocities: &'a [f32],
@@ -168,8 +153,7 @@ pub extern "C" fn giellavor_view_velocities<'a>(
 }
 
 // A link's own part of the accelerations. The rest as above.
-#[unsafe(no_mangle)]
-pub extern "C" fn giellavor_view_accelerations<'a>(
+pub fn giellavor_view_accelerations<'a>(
     arm: Arm,
     link: u32,
     velocities: &'a [f32],
@@ -183,8 +167,7 @@ pub extern "C" fn giellavor_view_accelerations<'a>(
 // ---- Constraint rows: the first n floats of `j` and of `wj` are written, n being the DoF count
 
 // The row of an axis' limit. Refused: 1 to 7, 9 to 12.
-#[unsafe(no_mangle)]
-pub extern "C" fn giellavor_limit_row(
+pub fn giellavor_limit_row(
     arm: Arm,
     link: u32,
     axis: u32,
@@ -199,8 +182,7 @@ pub extern "C" fn giellavor_limit_row(
 }
 
 // The row of an axis' friction. Refused: as above.
-#[unsafe(no_mangle)]
-pub extern "C" fn giellavor_friction_row(
+pub fn giellavor_friction_row(
     arm: Arm,
     link: u32,
     axis: u32,
@@ -216,8 +198,7 @@ pub extern "C" fn giellavor_friction_row(
 }
 
 // What a force on a link does along each DoF, its solve by the mass matrix, and their sums. Refused: 1 to 5, 7, 9, 11, 12.
-#[unsafe(no_mangle)]
-pub extern "C" fn giellavor_fill_jacobians(
+pub fn giellavor_fill_jacobians(
     arm: Arm,
     link: u32,
     force: Force,

@@ -18,7 +18,7 @@ pub type Functions = BTreeMap<String, Signature>;
 pub type Structs = BTreeMap<String, Vec<String>>;
 
 /// The crates whose functions are exported.
-pub const EXPORTING: [&str; 4] = ["plugin", "exports", "exports_views", "sizes"];
+pub const EXPORTING: [&str; 4] = ["plugin", "exports", "exports_views_c", "sizes"];
 
 pub fn host() -> &'static Path {
     Path::new(env!("CARGO_MANIFEST_DIR"))
@@ -101,13 +101,24 @@ pub fn exported_by(names: &[&str]) -> Functions {
     {
         for (before, text) in after(&code(&file), "pub extern \"C\" fn ") {
             let (name, parameters, result) = signature(text);
-            assert!(before.ends_with("#[no_mangle] "), "{name} is not exported by its name");
+            assert!(
+                before.ends_with("#[unsafe(no_mangle)] "),
+                "{name} is not exported by its name"
+            );
             assert!(name.starts_with("giellavor_"), "{name} lacks the library's prefix");
-            let parameters = parameters.iter().flat_map(|(name, of)| as_words(name, of)).collect();
+            let parameters = parameters
+                .iter()
+                .flat_map(|(name, of)| as_words(given(name), of))
+                .collect();
             assert!(found.insert(name, Signature { parameters, result }).is_none());
         }
     }
     found
+}
+
+/// A parameter's name to a caller. In Rattle `result` is what a function returns, so there a parameter of that name is called `res`.
+fn given(name: &str) -> &str {
+    if name == "res" { "result" } else { name }
 }
 
 /// The structs of one text, by what stands before each.
@@ -123,7 +134,10 @@ fn structs_of(text: &str) -> impl Iterator<Item = (&str, String, Vec<String>)> {
 /// The exporting crates and those that they use, by the list of crates.
 fn reached() -> BTreeSet<String> {
     let list = fs::read_to_string(host().join("../crates.txt")).unwrap();
-    let uses: BTreeMap<&str, &str> = list.lines().filter_map(|line| line.split_once(':')).collect();
+    let lines = list.lines().filter_map(|line| line.split_once(':'));
+    let uses: BTreeMap<&str, &str> = lines
+        .map(|(head, uses)| (head.split(' ').next().unwrap(), uses))
+        .collect();
     let mut found = BTreeSet::new();
     let mut open = EXPORTING.to_vec();
     while let Some(name) = open.pop() {
@@ -140,7 +154,7 @@ pub fn laid_out() -> Structs {
     let sources = reached().into_iter().map(|name| crates().join(name).join("src"));
     for file in sources.flat_map(|at| files(&at, ".rt")) {
         for (before, name, fields) in structs_of(&code(&file)) {
-            let c = before.ends_with("#[repr(C)] ");
+            let c = before.ends_with("#[repr(C)] #[derive(Clone, Copy)] ");
             all.entry(name).or_insert_with(Vec::new).push((c, fields));
         }
     }

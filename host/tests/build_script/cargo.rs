@@ -32,7 +32,6 @@ fn cargo(repository: &Repository, folder: &str) -> Command {
         .current_dir(repository.path("host"));
     cargo.env("CARGO_TARGET_DIR", repository.path(folder));
     cargo.env("PATH", format!("{}:{path}", repository.path("kit/bin").display()));
-    cargo.env_remove("RATTLE_HOME");
     cargo.stdout(Stdio::piped()).stderr(Stdio::piped());
     cargo
 }

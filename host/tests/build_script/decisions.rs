@@ -9,7 +9,7 @@ fn what_was_made_is_not_made_again() {
     assert_eq!(repository.run(), JOINED);
     assert_eq!(
         repository.archive(),
-        b"// plugin\n// exports\n// exports_views\n// sizes\n"
+        b"// plugin\n// exports\n// exports_views_c\n// sizes\n"
     );
     assert_eq!(repository.run(), 0);
 }
@@ -43,8 +43,38 @@ fn what_a_crate_uses_counts() {
     let repository = Repository::new("uses");
     repository.run();
     let list = fs::read_to_string(repository.path("crates.txt")).unwrap();
-    repository.write("crates.txt", &list.replace("sizes:", "sizes: base"));
+    repository.write("crates.txt", &list.replace("sizes staticlib:", "sizes staticlib: base"));
     assert_eq!(repository.run(), JOINED);
+}
+
+#[test]
+fn what_a_crate_is_counts() {
+    let repository = Repository::new("kinds");
+    repository.run();
+    let list = fs::read_to_string(repository.path("crates.txt")).unwrap();
+    repository.write("crates.txt", &list.replace("sizes staticlib:", "sizes:"));
+    assert_eq!(repository.run(), JOINED);
+}
+
+#[test]
+fn who_asks_is_told_what_is_proved() {
+    let repository = Repository::new("told");
+    repository.write("kit/told", "");
+    let run = || {
+        told(
+            repository
+                .script()
+                .env("GIELLAVOR_TELL", repository.path("kit/told"))
+                .output()
+                .unwrap(),
+        )
+    };
+    run();
+    let heard = || fs::read_to_string(repository.path("kit/told")).unwrap();
+    let all = "2 of 6: plugin\n3 of 6: exports\n5 of 6: exports_views_c\n6 of 6: sizes\n";
+    assert_eq!(heard(), all);
+    run();
+    assert_eq!(heard(), all, "nothing had to be proved");
 }
 
 #[test]
@@ -116,7 +146,7 @@ fn an_archive_that_cannot_be_made_is_not_linked() {
     let run = repository.script().output().unwrap();
     assert!(!run.status.success());
     assert!(!String::from_utf8_lossy(&run.stdout).contains("rustc-link-lib"));
-    assert!(String::from_utf8_lossy(&run.stderr).contains("`rt staticlib sizes` failed"));
+    assert!(String::from_utf8_lossy(&run.stderr).contains("`rt lib` in crates/sizes failed"));
 }
 
 #[test]

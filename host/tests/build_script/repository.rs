@@ -7,7 +7,8 @@ use std::path::{Path, PathBuf};
 use std::process::{Command, Output, Stdio};
 use std::sync::OnceLock;
 
-const CRATES: &str = "base:\nplugin: base\nexports: base\nexports_views: base plugin\nsizes:\nother: base\n";
+const CRATES: &str = "base:\nplugin staticlib: base\nexports staticlib: base\nexports_views: base\n\
+    exports_views_c staticlib: base exports_views\nsizes staticlib:\nother: base\n";
 
 /// The crates that the archive of the calls joins.
 pub const JOINED: usize = 4;
@@ -45,7 +46,7 @@ impl Repository {
         repository.write("crates.txt", CRATES);
         repository.write("README.md", "");
         for line in CRATES.lines() {
-            let name = line.split(':').next().unwrap();
+            let name = line.split([' ', ':']).next().unwrap();
             repository.write(&format!("crates/{name}/src/lib.rt"), &format!("// {name}\n"));
             repository.write(&format!("crates/{name}/specs/Lib.antt"), "");
         }
@@ -53,10 +54,7 @@ impl Repository {
         repository.write("kit/version", "a kit\n");
         repository.write("kit/calls", "");
         repository.program("kit/bin/rt", include_str!("rt"));
-        for machine in ["x86_64", "aarch64"] {
-            let archiver = format!("kit/on/{machine}/toolchain/bin/llvm-ar");
-            repository.program(&archiver, include_str!("llvm-ar"));
-        }
+        repository.program("kit/toolchain/bin/llvm-ar", include_str!("llvm-ar"));
         repository
     }
 
@@ -94,7 +92,6 @@ impl Repository {
         script.env("CARGO_MANIFEST_DIR", self.path("host"));
         script.env("OUT_DIR", self.path("host/out"));
         script.env("PATH", format!("{}:{path}", self.path("kit/bin").display()));
-        script.env_remove("RATTLE_HOME");
         script.stdout(Stdio::piped()).stderr(Stdio::piped());
         script
     }
@@ -106,7 +103,7 @@ impl Repository {
     }
 }
 
-/// None stays, but that of a test that failed: `rt ci` takes every crate below the project's folder that its list has not for a lost one.
+/// None stays, but that of a test that failed: `rt ci` refuses a source of Rattle below the project's folder that is of none of the crates on its list.
 impl Drop for Repository {
     fn drop(&mut self) {
         if !std::thread::panicking() {

@@ -4,7 +4,7 @@ use borrow.Author.Rules.{rules}
 use Rattle.also_run.proofs.play_many_links.Given as goal
 
 abbrev pub invariant-loop-tag : goal.invariant-loop-tag
-invariant-loop-tag l = l.tag ≤ 17
+invariant-loop-tag g l = l.tag ≤ 17
 
 abbrev pub decreases-loop-tag : goal.decreases-loop-tag
-decreases-loop-tag l = 17 - l.tag
+decreases-loop-tag g l = 17 - l.tag

@@ -5,7 +5,7 @@ use borrow.Author.Rules.{rules}
 use Rattle.also_run.proofs.print_floats.Given as goal
 
 abbrev pub invariant-loop-i : goal.invariant-loop-i
-invariant-loop-i l = l.i ≤ length l.floats
+invariant-loop-i g l = l.i ≤ length l.floats
 
 abbrev pub decreases-loop-i : goal.decreases-loop-i
-decreases-loop-i l = length l.floats - l.i
+decreases-loop-i g l = length l.floats - l.i

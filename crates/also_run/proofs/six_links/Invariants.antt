@@ -4,7 +4,7 @@ use borrow.Author.Rules.{rules}
 use Rattle.also_run.proofs.six_links.Given as goal
 
 abbrev pub invariant-loop-i : goal.invariant-loop-i
-invariant-loop-i l = l.i ≤ 6
+invariant-loop-i g l = l.i ≤ 6
 
 abbrev pub decreases-loop-i : goal.decreases-loop-i
-decreases-loop-i l = 6 - l.i
+decreases-loop-i g l = 6 - l.i
