@@ -1,6 +1,5 @@
 -- `play_many_links`: each tag in turn. Assumes nothing.
 use Prim.Native.Nat.{◌-◌, ◌≤◌}
-use borrow.Author.Rules.{rules}
 use Rattle.also_run.proofs.play_many_links.Given as goal
 
 abbrev pub invariant-loop-tag : goal.invariant-loop-tag

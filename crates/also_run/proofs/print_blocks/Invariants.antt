@@ -1,6 +1,5 @@
 -- `print_blocks`: each link in turn. Assumes nothing.
 use Prim.Native.Nat.{◌-◌, ◌≤◌}
-use borrow.Author.Rules.{rules}
 use Rattle.also_run.proofs.print_blocks.Given as goal
 
 abbrev pub invariant-loop-i : goal.invariant-loop-i

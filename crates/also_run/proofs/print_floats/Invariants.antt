@@ -1,7 +1,6 @@
 -- `print_floats`: each float in turn. Assumes nothing.
 use Prim.Native.Nat.{◌-◌, ◌≤◌}
 use lib.ListN.{length}
-use borrow.Author.Rules.{rules}
 use Rattle.also_run.proofs.print_floats.Given as goal
 
 abbrev pub invariant-loop-i : goal.invariant-loop-i

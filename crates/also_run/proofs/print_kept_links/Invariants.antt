@@ -1,6 +1,5 @@
 -- `print_kept_links`: each link in turn. Assumes nothing.
 use Prim.Native.Nat.{◌-◌, ◌≤◌}
-use borrow.Author.Rules.{rules}
 use Rattle.also_run.proofs.print_kept_links.Given as goal
 
 abbrev pub invariant-loop-i : goal.invariant-loop-i

@@ -1,6 +1,5 @@
 -- `six_links`: each link in turn. Assumes nothing.
 use Prim.Native.Nat.{◌-◌, ◌≤◌}
-use borrow.Author.Rules.{rules}
 use Rattle.also_run.proofs.six_links.Given as goal
 
 abbrev pub invariant-loop-i : goal.invariant-loop-i

@@ -3,7 +3,6 @@ use Prim.Native.Nat.{ℕ}
 use mathlib.Core.Path.{◌≡◌, ap}
 use mathlib.Core.List.{List}
 use lib.Ieee.{Float}
-use borrow.Author.Rules.{rules}
 use Rattle.refusal.specs.declared.Counted.{Counted}
 use Rattle.refusal.specs.Counted.{out, counted_of}
 use Rattle.solve.specs.Solve.{Answer, answer}

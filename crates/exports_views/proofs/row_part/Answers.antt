@@ -1,5 +1,4 @@
 -- `row_part`: the view's part, by its place. Assumes nothing.
-use borrow.Author.Rules.{rules}
 use Rattle.exports_views.proofs.Parts.{refused_part, seen_part}
 use Rattle.exports_views.proofs.row_part.Goals as goal
 
