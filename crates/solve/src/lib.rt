@@ -94,7 +94,7 @@ fn unknowns(n: usize, factors: &[f32], swaps: &[usize], right: &[f32], x: &mut [
     substitute_backward(n, factors, x);
 }
 
-// The unknowns, worked out in x, go into `result` unless one isn't finite.
+// The unknowns, worked out in x, go into `res` unless one isn't finite.
 fn substitute_in(
     n: usize,
     factors: &[f32],
@@ -213,7 +213,7 @@ fn refuse(n: usize, matrix: &[f32], right: &[f32], room: usize) -> u8
     lowest(&refusals)
 }
 
-// The first n floats of `result` become the x with matrix · x = right, the matrix being n by n in rows.
+// The first n floats of `res` become the x with matrix · x = right, the matrix being n by n in rows.
 pub fn solve(n: usize, matrix: &[f32], right: &[f32], res: &mut [f32]) -> u8
     ensures { answer result res.new ≡ solve_of n matrix.now right.now res.old }
 {

@@ -22,7 +22,7 @@ unfoldable pub answered : {A : Type 0} → ℕ → (ℕ → A) → A → List Fl
 answered zero refused answer row solved j wj = out answer (laid row j) (laid solved wj)
 answered (suc k) refused answer row solved j wj = out (refused (suc k)) j wj
 
--- WJ solves M-as-WJ = J, and the answer is made of WJ. After the refusal k: the solve's own 11 or 12, then 12 if the answer isn't finite
+-- WJ solves M·WJ = J, and the answer is made of WJ. After the refusal k: the solve's own 11 or 12, then 12 if the answer isn't finite
 unfoldable pub solved_answer : {A : Type 0} → (ℕ → A) → (A → Bool) → (List Float → A) → ℕ → ℕ → List Float → List Float → List Float → List Float → Outcome A
 solved_answer refused fine made k n row mass j wj =
     let o = solution n (take (n * n) mass) row in

@@ -7,10 +7,6 @@ use Rattle.masks.specs.Masks.{dofs_below, dofs_of}
 use Rattle.masks.proofs.Laws.{below_free, dofs_le}
 use Rattle.kinematics.proofs.add_axis.Goals as goal
 
--- ---- places, each from a later one
-
--- ---- the answers
-
 pub overflow_add-start : goal.overflow_add-start
 overflow_add-start c =
     let within : let own = c.args in dofs_below own.locked own.axis < dofs_of own.locked = let own = c.args in below_free own.locked own.axis (sym c.is_free.ensures ∙ c.if-is_free.true) in

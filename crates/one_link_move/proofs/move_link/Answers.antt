@@ -11,11 +11,7 @@ use lib.ListN.{set}
 use Rattle.arm.proofs.Shape.{links_length}
 use Rattle.full_working.specs.Outcome.{out}
 use Rattle.full_working.proofs.Refused.{refused}
-use Prim.Native.Nat.{◌<◌}
-use Rattle.limits.specs.Limits.{link_limit}
 use Rattle.one_link_move.proofs.move_link.Goals as goal
-
--- ---- seen from where the move is accepted
 
 pub returns-then-refusal-ne0 : goal.returns-then-refusal-ne0
 unfolding link_moved
@@ -24,28 +20,16 @@ returns-then-refusal-ne0 c =
     ∙ refused c.move_refusal-refusal.ensures c.args.arm c.args.tables.now c.if-refusal-ne0.true _
 
 pub offset_bounds-links-at : goal.offset_bounds-links-at
-offset_bounds-links-at c =
-    let within : c.args.link < link_limit = within_limit c.args.arm c.args.tables.now c.args.link c.args.change
-    (sym c.move_refusal-refusal.ensures ∙ c.if-refusal-ne0.false) in
-    omega (arith, within)
+offset_bounds-links-at c = omega (arith, within_limit c.args.arm c.args.tables.now c.args.link c.args.change (sym c.move_refusal-refusal.ensures ∙ c.if-refusal-ne0.false))
 
 pub bounds-links-at : goal.bounds-links-at
-bounds-links-at c =
-    let within : c.args.link < link_limit = within_limit c.args.arm c.args.tables.now c.args.link c.args.change
-    (sym c.move_refusal-refusal.ensures ∙ c.if-refusal-ne0.false) in
-    omega (arith, within)
+bounds-links-at c = omega (arith, within_limit c.args.arm c.args.tables.now c.args.link c.args.change (sym c.move_refusal-refusal.ensures ∙ c.if-refusal-ne0.false))
 
 pub offset_bounds-links-p : goal.offset_bounds-links-p
-offset_bounds-links-p c =
-    let within : c.args.link < link_limit = within_limit c.args.arm c.args.tables.now c.args.link c.args.change
-    (sym c.move_refusal-refusal.ensures ∙ c.if-refusal-ne0.false) in
-    omega (arith, within, c.fewer-p.ensures)
+offset_bounds-links-p c = omega (arith, within_limit c.args.arm c.args.tables.now c.args.link c.args.change (sym c.move_refusal-refusal.ensures ∙ c.if-refusal-ne0.false), c.fewer-p.ensures)
 
 pub bounds-links-p : goal.bounds-links-p
-bounds-links-p c =
-    let within : c.args.link < link_limit = within_limit c.args.arm c.args.tables.now c.args.link c.args.change
-    (sym c.move_refusal-refusal.ensures ∙ c.if-refusal-ne0.false) in
-    omega (arith, within, c.fewer-p.ensures)
+bounds-links-p c = omega (arith, within_limit c.args.arm c.args.tables.now c.args.link c.args.change (sym c.move_refusal-refusal.ensures ∙ c.if-refusal-ne0.false), c.fewer-p.ensures)
 
 pub returns-then-not-t : goal.returns-then-not-t
 returns-then-not-t c =
@@ -59,16 +43,10 @@ returns-then-not-t c =
     alone.off (not-true c.refresh_one-t.result.fine c.if-not-t.true) _ c.answer-then-not-t.ensures
 
 pub offset_bounds-links-at-then-is_leaf : goal.offset_bounds-links-at-then-is_leaf
-offset_bounds-links-at-then-is_leaf c =
-    let within : c.args.link < link_limit = within_limit c.args.arm c.args.tables.now c.args.link c.args.change
-    (sym c.move_refusal-refusal.ensures ∙ c.if-refusal-ne0.false) in
-    omega (arith, within)
+offset_bounds-links-at-then-is_leaf c = omega (arith, within_limit c.args.arm c.args.tables.now c.args.link c.args.change (sym c.move_refusal-refusal.ensures ∙ c.if-refusal-ne0.false))
 
 pub bounds-links-at-then-is_leaf : goal.bounds-links-at-then-is_leaf
-bounds-links-at-then-is_leaf c =
-    let within : c.args.link < link_limit = within_limit c.args.arm c.args.tables.now c.args.link c.args.change
-    (sym c.move_refusal-refusal.ensures ∙ c.if-refusal-ne0.false) in
-    omega (arith, within)
+bounds-links-at-then-is_leaf c = omega (arith, within_limit c.args.arm c.args.tables.now c.args.link c.args.change (sym c.move_refusal-refusal.ensures ∙ c.if-refusal-ne0.false))
 
 pub returns-then-is_leaf : goal.returns-then-is_leaf
 returns-then-is_leaf c =
@@ -82,16 +60,10 @@ returns-then-is_leaf c =
     alone.on (not-false c.refresh_one-t.result.fine c.if-not-t.false) _ c.answer-then-is_leaf.ensures
 
 pub offset_bounds-links-at-2 : goal.offset_bounds-links-at-2
-offset_bounds-links-at-2 c =
-    let within : c.args.link < link_limit = within_limit c.args.arm c.args.tables.now c.args.link c.args.change
-    (sym c.move_refusal-refusal.ensures ∙ c.if-refusal-ne0.false) in
-    omega (arith, within)
+offset_bounds-links-at-2 c = omega (arith, within_limit c.args.arm c.args.tables.now c.args.link c.args.change (sym c.move_refusal-refusal.ensures ∙ c.if-refusal-ne0.false))
 
 pub bounds-links-at-2 : goal.bounds-links-at-2
-bounds-links-at-2 c =
-    let within : c.args.link < link_limit = within_limit c.args.arm c.args.tables.now c.args.link c.args.change
-    (sym c.move_refusal-refusal.ensures ∙ c.if-refusal-ne0.false) in
-    omega (arith, within)
+bounds-links-at-2 c = omega (arith, within_limit c.args.arm c.args.tables.now c.args.link c.args.change (sym c.move_refusal-refusal.ensures ∙ c.if-refusal-ne0.false))
 
 pub returns-then-r : goal.returns-then-r
 returns-then-r c =
@@ -104,16 +76,10 @@ returns-then-r c =
     below.on c.if-r.true _ c.answer-then-r.ensures
 
 pub offset_bounds-links-at-3 : goal.offset_bounds-links-at-3
-offset_bounds-links-at-3 c =
-    let within : c.args.link < link_limit = within_limit c.args.arm c.args.tables.now c.args.link c.args.change
-    (sym c.move_refusal-refusal.ensures ∙ c.if-refusal-ne0.false) in
-    omega (arith, within)
+offset_bounds-links-at-3 c = omega (arith, within_limit c.args.arm c.args.tables.now c.args.link c.args.change (sym c.move_refusal-refusal.ensures ∙ c.if-refusal-ne0.false))
 
 pub bounds-links-at-3 : goal.bounds-links-at-3
-bounds-links-at-3 c =
-    let within : c.args.link < link_limit = within_limit c.args.arm c.args.tables.now c.args.link c.args.change
-    (sym c.move_refusal-refusal.ensures ∙ c.if-refusal-ne0.false) in
-    omega (arith, within)
+bounds-links-at-3 c = omega (arith, within_limit c.args.arm c.args.tables.now c.args.link c.args.change (sym c.move_refusal-refusal.ensures ∙ c.if-refusal-ne0.false))
 
 pub returns : goal.returns
 returns c =
