@@ -54,6 +54,11 @@ pub record Ran (n : ℕ) (row m z : List Float) (t : ℕ) : Type 0 where
   pub same : length z ≡ dof_limit
   pub left : answer t z ≡ solve_any n m row (replicate dof_limit zero32)
 
+-- a row that is as long as there are unknowns
+pub solved_row : (row m z : List Float) (t : ℕ) → length row ≤ dof_limit → length row * length row ≤ length m → length z ≡ dof_limit
+    → answer t z ≡ solve_any (length row) m row (replicate dof_limit zero32) → Ran (length row) row m z t
+solved_row row m z t f h w e = record { few = f; long = refl; matrix = h; same = w; left = e }
+
 module _ {n : ℕ} {row m z : List Float} {t : ℕ} (ran : Ran n row m z t) where
   abbrev zeros : List Float
   zeros = replicate dof_limit zero32

@@ -1,6 +1,6 @@
 -- `fill_jacobians`: a refusal ends it; else the tests tell that all fits, and `fill` gives the sums. Assumes nothing.
-use Prim.Native.Nat.{◌+◌, ◌*◌, ◌≤◌}
-use mathlib.Core.Path.{◌≡◌, ◌∙◌, refl, sym}
+use Prim.Native.Nat.{◌+◌, ◌*◌}
+use mathlib.Core.Path.{◌∙◌, refl, sym}
 use mathlib.Core.List.{[]}
 use native.Mathlib.Omega.{arith}
 use lib.ListN.{length}
@@ -11,7 +11,7 @@ use Rattle.arm.proofs.Shape.{rows_length}
 use Rattle.unit_multibody_joint.proofs.Rows.{row-front}
 use Rattle.unit_multibody_joint.proofs.Answers.{refused_first}
 use Rattle.fill_jacobians.specs.Sums.{sums_answer}
-use Rattle.fill_jacobians.specs.Fill.{fill_answer, fill_refusal}
+use Rattle.fill_jacobians.specs.Fill.{fill_answer}
 use Rattle.fill_jacobians.proofs.Accepted.{block_inside, block_part, fill_ready}
 use Rattle.fill_jacobians.proofs.fill_jacobians.Goals as goal
 
@@ -26,30 +26,27 @@ no_row = record { entries = [] }
 
 pub slice_bounds-fill-start : goal.slice_bounds-fill-start
 slice_bounds-fill-start c =
-    let accepted : let a = c.args in fill_refusal a.arm a.link a.force a.tables.now a.mass.now (length a.j.now) (length a.wj.now) ≡ 0 = sym c.fill_refusal-refusal.ensures ∙ c.if-refusal-ne0.false in
-    let inside : c.args.link * block_size + block_size ≤ length c.args.tables.now = let a = c.args in block_inside a.arm a.link a.force a.tables.now a.mass.now (length a.j.now) (length a.wj.now) accepted in
-    omega (arith, inside)
+    let a = c.args in
+    omega (arith, block_inside a.arm a.link a.force a.tables.now a.mass.now (length a.j.now) (length a.wj.now) (sym c.fill_refusal-refusal.ensures ∙ c.if-refusal-ne0.false))
 
 pub slice_bounds-fill-end : goal.slice_bounds-fill-end
 slice_bounds-fill-end c =
-    let accepted : let a = c.args in fill_refusal a.arm a.link a.force a.tables.now a.mass.now (length a.j.now) (length a.wj.now) ≡ 0 = sym c.fill_refusal-refusal.ensures ∙ c.if-refusal-ne0.false in
-    let inside : c.args.link * block_size + block_size ≤ length c.args.tables.now = let a = c.args in block_inside a.arm a.link a.force a.tables.now a.mass.now (length a.j.now) (length a.wj.now) accepted in
-    omega (arith, inside)
+    let a = c.args in
+    omega (arith, block_inside a.arm a.link a.force a.tables.now a.mass.now (length a.j.now) (length a.wj.now) (sym c.fill_refusal-refusal.ensures ∙ c.if-refusal-ne0.false))
 
 pub fill-requires : goal.fill-requires
 fill-requires c =
-    let accepted : let a = c.args in fill_refusal a.arm a.link a.force a.tables.now a.mass.now (length a.j.now) (length a.wj.now) ≡ 0 = sym c.fill_refusal-refusal.ensures ∙ c.if-refusal-ne0.false in
     let a = c.args in
     let n = c.dof_count in
-    fill_ready a.arm a.link a.force a.tables.now a.mass.now (length a.j.now) (length a.wj.now) accepted
+    fill_ready a.arm a.link a.force a.tables.now a.mass.now (length a.j.now) (length a.wj.now)
+    (sym c.fill_refusal-refusal.ensures ∙ c.if-refusal-ne0.false)
     n.result (a.link * block_size) (a.link * block_size + block_size) n.ensures refl refl
 
 pub returns : goal.returns
 unfolding fill_answer
 returns c =
-    let accepted : let a = c.args in fill_refusal a.arm a.link a.force a.tables.now a.mass.now (length a.j.now) (length a.wj.now) ≡ 0 = sym c.fill_refusal-refusal.ensures ∙ c.if-refusal-ne0.false in
     let a = c.args in
     let row = c.row_number-k in
     let n = c.dof_count in
     let front = row-front a.arm Velocities no_row n.result row.result (rows_length a.arm c.well_formed.0) n.ensures row.ensures in
-    c.fill.ensures ∙ rw (block_part a.link (a.link * block_size) (a.link * block_size + block_size) a.tables.now refl refl, front, n.ensures, accepted)
+    c.fill.ensures ∙ rw (block_part a.link (a.link * block_size) (a.link * block_size + block_size) a.tables.now refl refl, front, n.ensures, sym c.fill_refusal-refusal.ensures ∙ c.if-refusal-ne0.false)

@@ -1,12 +1,10 @@
 use native.Mathlib.Omega.{arith}
 use mathlib.Core.Path.{refl, sym, ap, ◌∙◌}
-use Prim.Native.Nat.{◌<◌}
 use Rattle.part_arm.specs.Inner.{places_in}
 use Rattle.arm.specs.Empty.{empty_arm}
 use Rattle.lists.proofs.Gathered.{laid_none, laid_as}
 use Rattle.arm.specs.declared.Arm.{Arm}
 use Rattle.part_arm.proofs.Turns.{coupling_turn, coupling_room, coupling_stays_lem, coupling_lost, couplings_done}
-use Rattle.limits.specs.Limits.{coupling_limit}
 use Rattle.part_arm.proofs.couplings_out.Goals as goal
 use Rattle.part_arm.proofs.couplings_out.Goals.{then-coupling_stays, else-coupling_stays}
 
@@ -21,21 +19,15 @@ loop-i-init c =
 
 pub offset_bounds-couplings-count : goal.offset_bounds-couplings-count
 offset_bounds-couplings-count c =
-    let room : c.loop-i.count < coupling_limit = let k = c.loop-i in
-    coupling_room (places_in c.args.places c.args.k) c.args.arm k.i k.couplings k.count k.invariant.2 (omega arith) in
-    omega (arith, room)
+    omega (arith, coupling_room (places_in c.args.places c.args.k) c.args.arm c.loop-i.i c.loop-i.couplings c.loop-i.count c.loop-i.invariant.2 (omega arith))
 
 pub bounds-couplings-count : goal.bounds-couplings-count
 bounds-couplings-count c =
-    let room : c.loop-i.count < coupling_limit = let k = c.loop-i in
-    coupling_room (places_in c.args.places c.args.k) c.args.arm k.i k.couplings k.count k.invariant.2 (omega arith) in
-    omega (arith, room)
+    omega (arith, coupling_room (places_in c.args.places c.args.k) c.args.arm c.loop-i.i c.loop-i.couplings c.loop-i.count c.loop-i.invariant.2 (omega arith))
 
 pub overflow_add-count : goal.overflow_add-count
 overflow_add-count c =
-    let room : c.loop-i.count < coupling_limit = let k = c.loop-i in
-    coupling_room (places_in c.args.places c.args.k) c.args.arm k.i k.couplings k.count k.invariant.2 (omega arith) in
-    omega (arith, room)
+    omega (arith, coupling_room (places_in c.args.places c.args.k) c.args.arm c.loop-i.i c.loop-i.couplings c.loop-i.count c.loop-i.invariant.2 (omega arith))
 
 pub loop-i-preserved : goal.loop-i-preserved
 loop-i-preserved c =

@@ -1,7 +1,5 @@
 use native.Mathlib.Omega.{arith}
 use mathlib.Core.Path.{refl, sym, ap, ◌∙◌}
-use Prim.Native.Nat.{◌<◌}
-use Rattle.limits.specs.Limits.{link_limit}
 use Rattle.part_arm.specs.Inner.{places_in}
 use Rattle.arm.specs.Empty.{empty_arm}
 use Rattle.lists.proofs.Gathered.{laid_none, laid_as}
@@ -21,21 +19,15 @@ loop-j-init c =
 
 pub offset_bounds-links-count : goal.offset_bounds-links-count
 offset_bounds-links-count c =
-    let room : c.loop-j.count < link_limit = let k = c.loop-j in
-    link_room (places_in c.args.places c.args.k) c.args.arm k.j k.links k.count k.invariant.2 (omega arith) in
-    omega (arith, room)
+    omega (arith, link_room (places_in c.args.places c.args.k) c.args.arm c.loop-j.j c.loop-j.links c.loop-j.count c.loop-j.invariant.2 (omega arith))
 
 pub bounds-links-count : goal.bounds-links-count
 bounds-links-count c =
-    let room : c.loop-j.count < link_limit = let k = c.loop-j in
-    link_room (places_in c.args.places c.args.k) c.args.arm k.j k.links k.count k.invariant.2 (omega arith) in
-    omega (arith, room)
+    omega (arith, link_room (places_in c.args.places c.args.k) c.args.arm c.loop-j.j c.loop-j.links c.loop-j.count c.loop-j.invariant.2 (omega arith))
 
 pub overflow_add-count : goal.overflow_add-count
 overflow_add-count c =
-    let room : c.loop-j.count < link_limit = let k = c.loop-j in
-    link_room (places_in c.args.places c.args.k) c.args.arm k.j k.links k.count k.invariant.2 (omega arith) in
-    omega (arith, room)
+    omega (arith, link_room (places_in c.args.places c.args.k) c.args.arm c.loop-j.j c.loop-j.links c.loop-j.count c.loop-j.invariant.2 (omega arith))
 
 pub loop-j-preserved : goal.loop-j-preserved
 loop-j-preserved c =

@@ -1,5 +1,4 @@
 -- `axis_row`: a refusal ends it; else the tests tell that all fits, and `constrain` gives the row. Assumes nothing.
-use Prim.Native.Nat.{◌*◌, ◌≤◌, ◌<◌}
 use mathlib.Core.Path.{◌∙◌, sym}
 use native.Mathlib.Omega.{arith}
 use lib.ListN.{length, set, replicate, length-set}
@@ -23,55 +22,30 @@ returns-then-refusal-ne0 c =
 
 pub offset_bounds-unit-at : goal.offset_bounds-unit-at
 offset_bounds-unit-at c =
-    let ready : (c.dof_count-n.result ≤ dof_limit)
-    × (c.dof_at-at.result < c.dof_count-n.result)
-    × (c.dof_count-n.result * c.dof_count-n.result ≤ length c.args.mass.now)
-    × (c.dof_count-n.result ≤ length c.args.j.now)
-    × (c.dof_count-n.result ≤ length c.args.wj.now) = let a = c.args in
-    let k = c.row_refusal-refusal in
-    let count = c.dof_count-n in
-    row-ready a.arm a.link a.axis a.fine a.ordered a.mass.now (length a.j.now) (length a.wj.now) (sym k.ensures ∙ c.if-refusal-ne0.false)
-    count.result c.dof_at-at.result count.ensures c.dof_at-at.ensures (links_length a.arm c.well_formed.0) in
-    let r = ready in search rules
+    let a = c.args in
+    let r = row-ready a.arm a.link a.axis a.fine a.ordered a.mass.now (length a.j.now) (length a.wj.now) (sym c.row_refusal-refusal.ensures ∙ c.if-refusal-ne0.false)
+    c.dof_count-n.result c.dof_at-at.result c.dof_count-n.ensures c.dof_at-at.ensures (links_length a.arm c.well_formed.0) in
+    search rules
 
 pub bounds-unit-at : goal.bounds-unit-at
 bounds-unit-at c =
-    let ready : (c.dof_count-n.result ≤ dof_limit)
-    × (c.dof_at-at.result < c.dof_count-n.result)
-    × (c.dof_count-n.result * c.dof_count-n.result ≤ length c.args.mass.now)
-    × (c.dof_count-n.result ≤ length c.args.j.now)
-    × (c.dof_count-n.result ≤ length c.args.wj.now) = let a = c.args in
-    let k = c.row_refusal-refusal in
-    let count = c.dof_count-n in
-    row-ready a.arm a.link a.axis a.fine a.ordered a.mass.now (length a.j.now) (length a.wj.now) (sym k.ensures ∙ c.if-refusal-ne0.false)
-    count.result c.dof_at-at.result count.ensures c.dof_at-at.ensures (links_length a.arm c.well_formed.0) in
-    omega (arith, ready)
+    let a = c.args in
+    let r = row-ready a.arm a.link a.axis a.fine a.ordered a.mass.now (length a.j.now) (length a.wj.now) (sym c.row_refusal-refusal.ensures ∙ c.if-refusal-ne0.false)
+    c.dof_count-n.result c.dof_at-at.result c.dof_count-n.ensures c.dof_at-at.ensures (links_length a.arm c.well_formed.0) in
+    omega arith
 
 pub slice_bounds-constrain-end : goal.slice_bounds-constrain-end
 slice_bounds-constrain-end c =
-    let ready : (c.dof_count-n.result ≤ dof_limit)
-    × (c.dof_at-at.result < c.dof_count-n.result)
-    × (c.dof_count-n.result * c.dof_count-n.result ≤ length c.args.mass.now)
-    × (c.dof_count-n.result ≤ length c.args.j.now)
-    × (c.dof_count-n.result ≤ length c.args.wj.now) = let a = c.args in
-    let k = c.row_refusal-refusal in
-    let count = c.dof_count-n in
-    row-ready a.arm a.link a.axis a.fine a.ordered a.mass.now (length a.j.now) (length a.wj.now) (sym k.ensures ∙ c.if-refusal-ne0.false)
-    count.result c.dof_at-at.result count.ensures c.dof_at-at.ensures (links_length a.arm c.well_formed.0) in
-    simp length-set (omega (arith, ready))
+    let a = c.args in
+    let r = row-ready a.arm a.link a.axis a.fine a.ordered a.mass.now (length a.j.now) (length a.wj.now) (sym c.row_refusal-refusal.ensures ∙ c.if-refusal-ne0.false)
+    c.dof_count-n.result c.dof_at-at.result c.dof_count-n.ensures c.dof_at-at.ensures (links_length a.arm c.well_formed.0) in
+    simp length-set (omega arith)
 
 pub constrain-requires : goal.constrain-requires
 constrain-requires c =
-    let ready : (c.dof_count-n.result ≤ dof_limit)
-    × (c.dof_at-at.result < c.dof_count-n.result)
-    × (c.dof_count-n.result * c.dof_count-n.result ≤ length c.args.mass.now)
-    × (c.dof_count-n.result ≤ length c.args.j.now)
-    × (c.dof_count-n.result ≤ length c.args.wj.now) = let a = c.args in
-    let k = c.row_refusal-refusal in
-    let count = c.dof_count-n in
-    row-ready a.arm a.link a.axis a.fine a.ordered a.mass.now (length a.j.now) (length a.wj.now) (sym k.ensures ∙ c.if-refusal-ne0.false)
-    count.result c.dof_at-at.result count.ensures c.dof_at-at.ensures (links_length a.arm c.well_formed.0) in
-    let r = ready in
+    let a = c.args in
+    let r = row-ready a.arm a.link a.axis a.fine a.ordered a.mass.now (length a.j.now) (length a.wj.now) (sym c.row_refusal-refusal.ensures ∙ c.if-refusal-ne0.false)
+    c.dof_count-n.result c.dof_at-at.result c.dof_count-n.ensures c.dof_at-at.ensures (links_length a.arm c.well_formed.0) in
     let u = set (replicate dof_limit zero32) c.dof_at-at.result one32 in
     let long = front_length c.dof_count-n.result u (simp length-set r.0) in
     rw long r
@@ -79,19 +53,9 @@ constrain-requires c =
 pub returns : goal.returns
 unfolding axis_answer
 returns c =
-    let ready : (c.dof_count-n.result ≤ dof_limit)
-    × (c.dof_at-at.result < c.dof_count-n.result)
-    × (c.dof_count-n.result * c.dof_count-n.result ≤ length c.args.mass.now)
-    × (c.dof_count-n.result ≤ length c.args.j.now)
-    × (c.dof_count-n.result ≤ length c.args.wj.now) = let a = c.args in
-    let k = c.row_refusal-refusal in
-    let count = c.dof_count-n in
-    row-ready a.arm a.link a.axis a.fine a.ordered a.mass.now (length a.j.now) (length a.wj.now) (sym k.ensures ∙ c.if-refusal-ne0.false)
-    count.result c.dof_at-at.result count.ensures c.dof_at-at.ensures (links_length a.arm c.well_formed.0) in
-    let r = ready in
     let a = c.args in
-    let at = c.dof_at-at in
-    let count = c.dof_count-n in
+    let r = row-ready a.arm a.link a.axis a.fine a.ordered a.mass.now (length a.j.now) (length a.wj.now) (sym c.row_refusal-refusal.ensures ∙ c.if-refusal-ne0.false)
+    c.dof_count-n.result c.dof_at-at.result c.dof_count-n.ensures c.dof_at-at.ensures (links_length a.arm c.well_formed.0) in
     c.constrain.ensures
-    ∙ unit_on a.b a.cfm_coeff _ count.result _ at.result _ _ a.mass.now a.j.now a.wj.now (sym c.row_refusal-refusal.ensures ∙ c.if-refusal-ne0.false)
-    count.ensures at.ensures (unit_front count.result dof_limit at.result r.0 r.1)
+    ∙ unit_on a.b a.cfm_coeff _ c.dof_count-n.result _ c.dof_at-at.result _ _ a.mass.now a.j.now a.wj.now (sym c.row_refusal-refusal.ensures ∙ c.if-refusal-ne0.false)
+    c.dof_count-n.ensures c.dof_at-at.ensures (unit_front c.dof_count-n.result dof_limit c.dof_at-at.result r.0 r.1)
