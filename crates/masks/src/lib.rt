@@ -4,14 +4,15 @@
 
 ghost use Rattle.std.specs.Prelude.{◌≡◌, ◌≤◌, length};
 ghost use Rattle.lists.specs.Lists.{laid};
-ghost use Rattle.refusal.specs.Counted.{out};
+ghost use Rattle.refusal.specs.Refusal.{code};
+ghost use Rattle.refusal.specs.Counted.{out, counted};
 ghost use Rattle.limits.specs.Limits.{link_limit};
 ghost use Rattle.masks.specs.Masks.{is_mask, is_axis, bit_of, one, is_free, dofs_below, dofs_of, constraints_at, damping_of, damping_row};
 ghost use Rattle.masks.specs.Starts.{all_masks, starts_of, total_of};
 ghost use Rattle.masks.specs.Answers.{free_answer, dofs_answer, below_answer, starts_refusal, starts_answer, damping_refusal, damping_answer, constraints_answer};
 
 use limits::LINKS;
-use refusal::{Counted, answer_count, lowest, unless};
+use refusal::{Refusal, lowest, unless};
 
 // The default damping of a free angle.
 const ANGLE_DAMPING: f32 = 0.1;
@@ -99,39 +100,36 @@ pub fn axis_damping(axis: u8) -> f32
 }
 
 // Is an axis of a mask free? 1 or 0.
-pub fn free_axis(mask: u32, axis: u32) -> Counted
-    ensures { result ≡ free_answer mask axis }
+#[tactic(auto, using(refusal::proofs::Answers::counted_passed, refusal::proofs::Answers::counted_exit), unfolding(crate::specs::Answers::free_answer))]
+pub fn free_axis(mask: u32, axis: u32) -> Result<usize, Refusal>
+    ensures { counted result ≡ free_answer mask axis }
 {
-    let refusal = unless(is_mask(mask) & is_axis(axis), 5);
-    answer_count(refusal, one_if(free(mask, axis)))
+    unless(is_mask(mask) & is_axis(axis), Refusal::Mask)?;
+    Ok(one_if(free(mask, axis)))
 }
 
 // The DoF count of a mask.
-pub fn dof_count(mask: u32) -> Counted
-    ensures { result ≡ dofs_answer mask }
+#[tactic(auto, using(refusal::proofs::Answers::counted_passed, refusal::proofs::Answers::counted_exit), unfolding(crate::specs::Answers::dofs_answer, crate::specs::Masks::dofs_of))]
+pub fn dof_count(mask: u32) -> Result<usize, Refusal>
+    ensures { counted result ≡ dofs_answer mask }
 {
-    answer_count(unless(is_mask(mask), 5), free_below(mask, 3))
+    unless(is_mask(mask), Refusal::Mask)?;
+    Ok(free_below(mask, 3))
 }
 
 // The DoFs of a mask below an axis.
-pub fn dof_count_below(mask: u32, axis: u32) -> Counted
-    ensures { result ≡ below_answer mask axis }
+pub fn dof_count_below(mask: u32, axis: u32) -> Result<usize, Refusal>
+    ensures { counted result ≡ below_answer mask axis }
 {
-    let refusal = unless(is_mask(mask) & is_axis(axis), 5);
-    answer_count(refusal, free_below(mask, axis))
+    unless(is_mask(mask) & is_axis(axis), Refusal::Mask)?;
+    Ok(free_below(mask, axis))
 }
 
 // Is each at most 7?
 fn all_masks(masks: &[u8]) -> bool
     ensures { result ≡ all_masks masks.now }
 {
-    let mut ok = true;
-    let mut i = 0;
-    while i < masks.len() {
-        ok = ok & is_mask(masks[i] as u32);
-        i += 1;
-    }
-    ok
+    masks.iter().all(|mask| is_mask(u32::from(*mask)))
 }
 
 // The starts go into the front of `lent`; returned is the total.
@@ -140,36 +138,31 @@ fn fill_starts(masks: &[u8], lent: &mut [u8]) -> usize
     ensures { (result ≡ total_of masks.now) × (lent.new ≡ laid (starts_of masks.now) lent.old) }
 {
     let mut start: usize = 0;
-    let mut i = 0;
-    while i < masks.len() {
-        lent[i] = start as u8;
-        start += dofs(masks[i]);
-        i += 1;
+    for (mask, place) in masks.iter().zip(lent.iter_mut()) {
+        *place = start as u8;
+        start += dofs(*mask);
     }
     start
 }
 
-fn starts_refusal(masks: &[u8], room: usize) -> u8
-    ensures { result ≡ starts_refusal masks.now room }
+#[tactic(auto, unfolding(crate::specs::Answers::starts_refusal))]
+fn starts_refusal(masks: &[u8], room: usize) -> Result<(), Refusal>
+    ensures { code result ≡ starts_refusal masks.now room }
 {
     let n = masks.len();
-    let refusals = [
-        unless(n <= room, 1),
-        unless(n <= LINKS, 2),
-        unless(all_masks(masks), 5),
-    ];
-    lowest(&refusals)
+    lowest(&[
+        unless(n <= room, Refusal::Memory),
+        unless(n <= LINKS, Refusal::Limit),
+        unless(all_masks(masks), Refusal::Mask),
+    ])
 }
 
 // The start of each mask of a bare list, a byte each, and the total. Any mask may come first: a bare list has no root.
-pub fn starts(masks: &[u8], lent: &mut [u8]) -> Counted
-    ensures { out result lent.new ≡ starts_answer masks.now lent.old }
+pub fn starts(masks: &[u8], lent: &mut [u8]) -> Result<usize, Refusal>
+    ensures { out (counted result) lent.new ≡ starts_answer masks.now lent.old }
 {
-    let refusal = starts_refusal(masks, lent.len());
-    if refusal == 0 {
-        return answer_count(0, fill_starts(masks, lent));
-    }
-    answer_count(refusal, 0)
+    starts_refusal(masks, lent.len())?;
+    Ok(fill_starts(masks, lent))
 }
 
 // The default damping of each free axis, rising, goes into the front of `lent`; returned is how many.
@@ -187,25 +180,22 @@ fn fill_damping(mask: u32, lent: &mut [f32]) -> usize
     at
 }
 
-fn damping_refusal(mask: u32, room: usize) -> u8
-    ensures { result ≡ damping_refusal mask room }
+#[tactic(auto, unfolding(crate::specs::Answers::damping_refusal, crate::specs::Masks::dofs_of))]
+fn damping_refusal(mask: u32, room: usize) -> Result<(), Refusal>
+    ensures { code result ≡ damping_refusal mask room }
 {
-    let refusals = [
-        unless(free_below(mask, 3) <= room, 1),
-        unless(is_mask(mask), 5),
-    ];
-    lowest(&refusals)
+    lowest(&[
+        unless(free_below(mask, 3) <= room, Refusal::Memory),
+        unless(is_mask(mask), Refusal::Mask),
+    ])
 }
 
 // The default damping row of a mask: one entry for each DoF, rising.
-pub fn default_damping(mask: u32, lent: &mut [f32]) -> Counted
-    ensures { out result lent.new ≡ damping_answer mask lent.old }
+pub fn default_damping(mask: u32, lent: &mut [f32]) -> Result<usize, Refusal>
+    ensures { out (counted result) lent.new ≡ damping_answer mask lent.old }
 {
-    let refusal = damping_refusal(mask, lent.len());
-    if refusal == 0 {
-        return answer_count(0, fill_damping(mask, lent));
-    }
-    answer_count(refusal, 0)
+    damping_refusal(mask, lent.len())?;
+    Ok(fill_damping(mask, lent))
 }
 
 // One for the axis' limit bit and one for its motor bit, if the axis is free.
@@ -218,12 +208,12 @@ fn constraints_at(locked: u32, limit: u32, motor: u32, axis: u32) -> usize
 }
 
 // How many velocity constraints a joint's limits and motors make.
-pub fn num_velocity_constraints(locked: u32, limit: u32, motor: u32) -> Counted
-    ensures { result ≡ constraints_answer locked limit motor }
+pub fn num_velocity_constraints(locked: u32, limit: u32, motor: u32) -> Result<usize, Refusal>
+    ensures { counted result ≡ constraints_answer locked limit motor }
 {
-    let refusal = unless(is_mask(locked) & is_mask(limit) & is_mask(motor), 5);
+    unless(is_mask(locked) & is_mask(limit) & is_mask(motor), Refusal::Mask)?;
     let x = constraints_at(locked, limit, motor, 0);
     let y = constraints_at(locked, limit, motor, 1);
     let angle = constraints_at(locked, limit, motor, 2);
-    answer_count(refusal, x + y + angle)
+    Ok(x + y + angle)
 }

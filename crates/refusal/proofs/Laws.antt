@@ -1,29 +1,38 @@
 -- `lowest` is the lowest: none where every one is none, else one of the list that no other undercuts. By the list's length.
-use Prim.Native.Nat.{ℕ, zero, suc, ◌-◌, ◌≤◌, ◌<◌}
-use mathlib.Core.Path.{◌≡◌, refl, sym, subst, ◌∙◌}
+use Prim.Native.Nat.{ℕ, zero, suc, min, ◌-◌, ◌≤◌, ◌<◌}
+use mathlib.Core.Path.{◌≡◌, refl, sym, ap, subst, ◌∙◌}
 use mathlib.Core.Logic.{◌⊎◌, inl, inr}
-use mathlib.Core.List.{List, [], ◌∷◌}
+use mathlib.Core.List.{List, [], ◌∷◌, ◌++◌}
 use native.Mathlib.Nat.{eq-zero-or-pos}
-use native.Mathlib.Numerals.{sub-one}
 use native.Mathlib.Omega.{arith}
 use mathlib.Core.Bool.{Bool, true}
-use lib.ListN.{length, drop, get_or}
-use lib.Seq.{drop-cons}
 use Rattle.refusal.specs.Refusal.{unless_of, lower_of, lowest, In, Lowest}
 use Rattle.refusal.proofs.Tests.{holds}
 
 -- ---- which of two is the lower
 
-pub is_second : (a b : ℕ) → a ≡ 0 → lower_of a b ≡ b
+pub without_second : (a : ℕ) → lower_of a 0 ≡ a
 unfolding lower_of
-is_second zero b h = refl
-is_second (suc a) b h = absurd (omega arith)
+without_second zero = refl
+without_second (suc a) = refl
 
-pub is_first : (a b : ℕ) → (a ≡ 0 → ⊥) → b ≡ 0 → lower_of a b ≡ a
+without_first : (b : ℕ) → lower_of zero b ≡ b
 unfolding lower_of
-is_first zero b h e = absurd (h refl)
-is_first (suc a) zero h e = refl
-is_first (suc a) (suc b) h e = absurd (omega arith)
+without_first b = refl
+
+of_two : (a b : ℕ) → 0 < a → 0 < b → lower_of a b ≡ min a b
+unfolding lower_of
+of_two zero b h k = absurd (omega arith)
+of_two (suc a) zero h k = absurd (omega arith)
+of_two (suc a) (suc b) h k = refl
+
+lower_assoc : (a b c : ℕ) → lower_of (lower_of a b) c ≡ lower_of a (lower_of b c)
+unfolding lower_of
+lower_assoc zero b c = refl
+lower_assoc (suc a) zero c = refl
+lower_assoc (suc a) (suc b) zero = without_second (min (suc a) (suc b))
+lower_assoc (suc a) (suc b) (suc c) =
+    of_two (min (suc a) (suc b)) (suc c) (omega arith) (omega arith) ∙ omega arith ∙ sym (of_two (suc a) (min (suc b) (suc c)) (omega arith) (omega arith))
 
 pub is_less : (a b : ℕ) → (a ≡ 0 → ⊥) → a < b → lower_of a b ≡ a
 unfolding lower_of
@@ -87,10 +96,11 @@ pub is_lowest : (ks : List ℕ) → Lowest ks (lowest ks)
 is_lowest [] = record { none = λ e k i. absurd i; given = λ h. absurd (h refl); least = λ k i. absurd i }
 is_lowest (k ∷ ks) = rw first_then_rest at (more k (lowest ks) ks (is_lowest ks))
 
--- from a place on, and from the place before it
-pub one_earlier : (ks : List ℕ) (i : ℕ) → 0 < i → i ≤ length ks → lower_of (get_or ks (i - 1) 0) (lowest (drop i ks)) ≡ lowest (drop (i - 1) ks)
-one_earlier ks zero h l = absurd (omega arith)
-one_earlier ks (suc i) h l = rw (sub-one, drop-cons ks i 0) (first_then_rest (get_or ks i 0) (drop (suc i) ks))
+-- one more at the end
+pub lowest-push : (ks : List ℕ) (k : ℕ) → lowest (ks ++ k ∷ []) ≡ lower_of (lowest ks) k
+lowest-push [] k = sym (without_first k)
+lowest-push (j ∷ ks) k =
+    sym (first_then_rest j (ks ++ k ∷ [])) ∙ ap (lower_of j) (lowest-push ks k) ∙ sym (lower_assoc j (lowest ks) k) ∙ ap (λ (n : ℕ). lower_of n k) (first_then_rest j ks)
 
 -- ---- a list of tests that gives no refusal: each test holds
 

@@ -1,7 +1,9 @@
 -- What a call that counts answers: a refusal and a zero count, or 0 and what was counted; and what the memory lent to it then holds.
-use Rattle.std.specs.Prelude.{ℕ, zero, suc, List}
+use Rattle.std.specs.Prelude.{ℕ, zero, suc, List, Result, Ok, Err}
 use Rattle.lists.specs.Lists.{laid}
 use Rattle.refusal.specs.declared.Counted.{Counted}
+use Rattle.refusal.specs.declared.Refusal.{Refusal}
+use Rattle.refusal.specs.Refusal.{number}
 
 -- a count, unless there is a refusal
 unfoldable pub counted_of : ℕ → ℕ → Counted
@@ -20,3 +22,8 @@ out answer memory = record { answer = answer; memory = memory }
 unfoldable pub filled : {A : Type 0} → ℕ → ℕ → List A → List A → Outcome A
 filled zero n row lent = out (counted_of 0 n) (laid row lent)
 filled (suc k) n row lent = out (counted_of (suc k) n) lent
+
+-- what C is told of a count
+abbrev pub counted : Result ℕ Refusal → Counted
+counted (Ok n) = record { refusal = 0; count = n }
+counted (Err r) = record { refusal = number r; count = 0 }

@@ -1,5 +1,27 @@
 -- Refusal numbers, where 0 is none.
-use Rattle.std.specs.Prelude.{ℕ, zero, suc, min, ◌≤◌, ◌≡◌, Bool, true, false, ◌⊎◌, List, [], ◌∷◌}
+use Rattle.std.specs.Prelude.{ℕ, zero, suc, min, ◌≤◌, ◌≡◌, Bool, true, false, ◌⊎◌, List, [], ◌∷◌, Result, Ok, Err}
+use Rattle.refusal.specs.declared.Refusal.{Refusal}
+use Rattle.refusal.specs.declared.Refusal.TheVariants.{Memory, Limit, Tag, Link, Mask, Locked, NotFinite, NotATurn, Beyond, Reversed, Singular, Overflow}
+
+-- a rule's number
+abbrev pub number : Refusal → ℕ
+number Memory = 1
+number Limit = 2
+number Tag = 3
+number Link = 4
+number Mask = 5
+number Locked = 6
+number NotFinite = 7
+number NotATurn = 8
+number Beyond = 9
+number Reversed = 10
+number Singular = 11
+number Overflow = 12
+
+-- the number of what refuses a call, 0 where nothing does
+abbrev pub code : {A : Type 0} → Result A Refusal → ℕ
+code (Ok x) = 0
+code (Err r) = number r
 
 -- k, unless the test holds
 abbrev pub unless_of : Bool → ℕ → ℕ
