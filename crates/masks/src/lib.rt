@@ -7,7 +7,7 @@ ghost use Rattle.lists.specs.Lists.{laid};
 ghost use Rattle.refusal.specs.Refusal.{code};
 ghost use Rattle.refusal.specs.Counted.{out, counted};
 ghost use Rattle.limits.specs.Limits.{link_limit};
-ghost use Rattle.masks.specs.Masks.{is_mask, is_axis, bit_of, one, is_free, dofs_below, dofs_of, constraints_at, damping_of, damping_row};
+ghost use Rattle.masks.specs.Masks.{axis_number, NamesAxis, is_mask, is_axis, bit_of, one, is_free, dofs_below, dofs_of, constraints_at, damping_of, damping_row};
 ghost use Rattle.masks.specs.Starts.{all_masks, starts_of, total_of};
 ghost use Rattle.masks.specs.Answers.{free_answer, dofs_answer, below_answer, starts_refusal, starts_answer, damping_refusal, damping_answer, constraints_answer};
 
@@ -16,6 +16,38 @@ use refusal::{Refusal, lowest, unless};
 
 // The default damping of a free angle.
 const ANGLE_DAMPING: f32 = 0.1;
+
+// An axis of a joint, by the number of its bit.
+#[derive(Clone, Copy, Debug, PartialEq, Eq)]
+pub enum Axis {
+    X = 0,
+    Y = 1,
+    Angle = 2,
+}
+
+impl Axis {
+    // The axis' number.
+    pub fn number(self) -> u32
+        ensures { result ≡ axis_number self }
+    {
+        self as u32
+    }
+}
+
+impl TryFrom<u32> for Axis {
+    type Error = Refusal;
+
+    ghost try_from_gives = { NamesAxis };
+
+    fn try_from(axis: u32) -> Result<Axis, Refusal> {
+        match axis {
+            0 => Ok(Axis::X),
+            1 => Ok(Axis::Y),
+            2 => Ok(Axis::Angle),
+            _ => Err(Refusal::Mask),
+        }
+    }
+}
 
 // A mask is at most 7.
 pub fn is_mask(mask: u32) -> bool
@@ -32,37 +64,26 @@ pub fn is_axis(axis: u32) -> bool
 }
 
 // Is the mask's bit of an axis set?
-fn bit(mask: u32, axis: u32) -> bool
-    requires { axis ≤ 2 }
-    ensures { result ≡ bit_of mask axis }
+fn bit(mask: u32, axis: Axis) -> bool
+    ensures { result ≡ bit_of mask (axis_number axis) }
 {
-    (mask >> axis) & 1 == 1
-}
-
-// 1 if it holds, else 0.
-fn one_if(holds: bool) -> usize
-    ensures { (result ≡ one holds) × (result ≤ 1) }
-{
-    if holds { 1 } else { 0 }
+    (mask >> axis.number()) & 1 == 1
 }
 
 // `is_free`, of any numbers.
 fn free(mask: u32, axis: u32) -> bool
     ensures { result ≡ is_free mask axis }
 {
-    if is_axis(axis) {
-        return !bit(mask, axis);
-    }
-    false
+    Axis::try_from(axis).is_ok_and(|axis| !bit(mask, axis))
 }
 
 // `dofs_below`, of any numbers.
 fn free_below(mask: u32, axis: u32) -> usize
     ensures { (result ≡ dofs_below mask axis) × (result ≤ 3) }
 {
-    let x = one_if(free(mask, 0));
-    let y = one_if(free(mask, 1));
-    let angle = one_if(free(mask, 2));
+    let x = usize::from(free(mask, 0));
+    let y = usize::from(free(mask, 1));
+    let angle = usize::from(free(mask, 2));
     match axis {
         0 => 0,
         1 => x,
@@ -105,7 +126,7 @@ pub fn free_axis(mask: u32, axis: u32) -> Result<usize, Refusal>
     ensures { counted result ≡ free_answer mask axis }
 {
     unless(is_mask(mask) & is_axis(axis), Refusal::Mask)?;
-    Ok(one_if(free(mask, axis)))
+    Ok(usize::from(free(mask, axis)))
 }
 
 // The DoF count of a mask.
@@ -138,8 +159,8 @@ fn fill_starts(masks: &[u8], lent: &mut [u8]) -> usize
     ensures { (result ≡ total_of masks.now) × (lent.new ≡ laid (starts_of masks.now) lent.old) }
 {
     let mut start: usize = 0;
-    for (mask, place) in masks.iter().zip(lent.iter_mut()) {
-        *place = start as u8;
+    for (i, mask) in masks.iter().enumerate() {
+        lent[i] = start as u8;
         start += dofs(*mask);
     }
     start
@@ -199,12 +220,11 @@ pub fn default_damping(mask: u32, lent: &mut [f32]) -> Result<usize, Refusal>
 }
 
 // One for the axis' limit bit and one for its motor bit, if the axis is free.
-fn constraints_at(locked: u32, limit: u32, motor: u32, axis: u32) -> usize
-    requires { axis ≤ 2 }
-    ensures { (result ≡ constraints_at locked limit motor axis) × (result ≤ 2) }
+fn constraints_at(locked: u32, limit: u32, motor: u32, axis: Axis) -> usize
+    ensures { (result ≡ constraints_at locked limit motor (axis_number axis)) × (result ≤ 2) }
 {
-    let moves = free(locked, axis);
-    one_if(moves & bit(limit, axis)) + one_if(moves & bit(motor, axis))
+    let moves = !bit(locked, axis);
+    usize::from(moves & bit(limit, axis)) + usize::from(moves & bit(motor, axis))
 }
 
 // How many velocity constraints a joint's limits and motors make.
@@ -212,8 +232,8 @@ pub fn num_velocity_constraints(locked: u32, limit: u32, motor: u32) -> Result<u
     ensures { counted result ≡ constraints_answer locked limit motor }
 {
     unless(is_mask(locked) & is_mask(limit) & is_mask(motor), Refusal::Mask)?;
-    let x = constraints_at(locked, limit, motor, 0);
-    let y = constraints_at(locked, limit, motor, 1);
-    let angle = constraints_at(locked, limit, motor, 2);
+    let x = constraints_at(locked, limit, motor, Axis::X);
+    let y = constraints_at(locked, limit, motor, Axis::Y);
+    let angle = constraints_at(locked, limit, motor, Axis::Angle);
     Ok(x + y + angle)
 }
