@@ -14,7 +14,7 @@ ghost use Rattle.arm.specs.Edits.{dof_at};
 ghost use Rattle.arm.specs.Inner.{row_finite, dof_among, link_tests_of, coupling_tests_of, handed_in};
 ghost use Rattle.arm.specs.HandedIn.{is_new, unique, joint_masks_fit, joint_finite, link_finite, angle_fits, coupling_links_fit, coupling_axes_fit, coupling_finite, root_mask_fits, arm_refusal};
 
-use floats::{all_finite, finite};
+use floats::all_finite;
 use limits::{COUPLINGS, DOFS, LINKS, fewer};
 use masks::{dofs, dofs_below, is_axis, is_mask};
 use multibody_joint::{Joint, fixed};
@@ -460,7 +460,7 @@ fn axes_fit(c: Coupling) -> bool
 fn is_finite_coupling(c: Coupling) -> bool
     ensures { result ≡ coupling_finite c }
 {
-    finite(c.coefficient) & finite(c.offset)
+    c.coefficient.is_finite() & c.offset.is_finite()
 }
 
 // What is tested of every coupling that counts.

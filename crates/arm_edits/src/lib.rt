@@ -13,7 +13,6 @@ use arm::{
     Arm, Coupling, Edited, HandedIn, Link, Row, RowName, arm_refusal, dof_among, handed_in,
     mask_among, with_joint,
 };
-use floats::finite;
 use limits::COUPLINGS;
 use masks::{is_axis, is_free};
 use multibody_joint::Spring;
@@ -31,7 +30,7 @@ fn write_refusal(arm: Arm, handed: HandedIn, link: u32, axis: u32, value: f32) -
         unless((link as usize) < arm.link_count, 4),
         unless(is_axis(axis), 5),
         unless(is_free(mask, axis), 6),
-        unless(finite(value), 7),
+        unless(value.is_finite(), 7),
         handed.refusal,
     ];
     lowest(&refusals)
@@ -68,7 +67,7 @@ pub fn write_row(arm: Arm, name: RowName, link: u32, axis: u32, value: f32) -> E
 fn is_finite_spring(s: Spring) -> bool
     ensures { result ≡ spring_finite s }
 {
-    finite(s.stiffness) & finite(s.rest)
+    s.stiffness.is_finite() & s.rest.is_finite()
 }
 
 fn spring_refusal(arm: Arm, link: u32, axis: u32, spring: Spring) -> u8
@@ -129,7 +128,7 @@ fn coupling_refusal(arm: Arm, c: NewCoupling) -> u8
         unless(arm.coupling_count < COUPLINGS, 2),
         unless(((c.link1 as usize) < n) & ((c.link2 as usize) < n), 4),
         unless(is_axis(c.axis1) & is_axis(c.axis2), 5),
-        unless(finite(c.coefficient) & finite(c.offset), 7),
+        unless(c.coefficient.is_finite() & c.offset.is_finite(), 7),
         arm_refusal(arm),
     ];
     lowest(&refusals)

@@ -1,6 +1,6 @@
 -- Floats, one and in a row. Each operation is that of f32, rounded once.
-use Rattle.std.specs.Prelude.{ℕ, Bool, true, false, List, [], ◌∷◌, get_or, Float}
-use Rattle.std.specs.Float.{nan, inf, fin, binary32}
+use Rattle.std.specs.Prelude.{ℕ, Bool, List, [], ◌∷◌, get_or, Float}
+use Rattle.std.specs.Float.{binary32, float_is_finite}
 use Rattle.std.specs.Float.Ieee.{of_bits, add, sub, mul, div}
 use Rattle.lists.specs.Tests.{every}
 
@@ -28,9 +28,7 @@ over x y = div binary32 x y
 
 -- neither an infinity nor a NaN
 abbrev pub is_finite : Float → Bool
-is_finite nan = false
-is_finite (inf s) = false
-is_finite (fin s m e) = true
+is_finite x = float_is_finite x
 
 abbrev pub all_finite : List Float → Bool
 all_finite xs = every is_finite xs

@@ -15,7 +15,6 @@ use arm::{
     Arm, Edited, HandedIn, Link, handed_in, live_links, mask_among, start_among, with_inputs,
     with_joint, with_links,
 };
-use floats::finite;
 use full_working::tables_fit;
 use kinematics::{refresh_marked, refresh_one};
 use limits::{LINKS, fewer};
@@ -54,7 +53,7 @@ fn change_tests(locked: u8, change: Change) -> ChangeTests
         Change::Coordinate { axis, value } => ChangeTests {
             axis: is_axis(axis),
             free: is_free(locked, axis),
-            floats: finite(value),
+            floats: value.is_finite(),
             turns: true,
             angle: !((axis == 2) & is_beyond(value)),
         },

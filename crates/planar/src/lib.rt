@@ -5,7 +5,6 @@ ghost use Rattle.std.specs.Prelude.{◌≡◌, ◌≤◌, ◌<◌, leb};
 ghost use Rattle.planar.specs.Rotation.{quarter_turns, magnitude_of, reduced_by, sine_of, cosine_of, quarter_pair, signed_by, rotation_at, is_beyond, rotation_refusal, rotated};
 ghost use Rattle.planar.specs.Poses.{rotation_of, translation_of, posed, identity_pose, rotation_product, turned_by, placed_by, point_difference, pose_product, pose_inverse, is_turn, finite_rotation, finite_point, finite_pose};
 
-use floats::finite;
 use refusal::{lower, unless};
 
 #[repr(C)]
@@ -152,7 +151,7 @@ pub fn is_beyond(angle: f32) -> bool
 fn rotation_refusal(angle: f32) -> u8
     ensures { result ≡ rotation_refusal angle }
 {
-    lower(unless(finite(angle), 7), unless(!is_beyond(angle), 9))
+    lower(unless(angle.is_finite(), 7), unless(!is_beyond(angle), 9))
 }
 
 #[repr(C)]
@@ -295,14 +294,14 @@ pub fn is_turn(r: Rotation) -> bool
 pub fn is_finite_rotation(r: Rotation) -> bool
     ensures { result ≡ finite_rotation r }
 {
-    finite(r.re) & finite(r.im)
+    r.re.is_finite() & r.im.is_finite()
 }
 
 // Are both its floats finite?
 pub fn is_finite_point(p: Point) -> bool
     ensures { result ≡ finite_point p }
 {
-    finite(p.x) & finite(p.y)
+    p.x.is_finite() & p.y.is_finite()
 }
 
 // Are its four floats finite?

@@ -11,7 +11,7 @@ ghost use Rattle.unit_multibody_joint.specs.Answers.{axis_answer, limit_answer, 
 
 use arm::{Arm, RowName, arm_refusal, dof_at, dof_count, mask_at, row_number};
 use elimination::square_fits;
-use floats::{all_finite, copy, copy_part, entry, finite, is_finite_part};
+use floats::{all_finite, copy, copy_part, entry, is_finite_part};
 use limits::DOFS;
 use masks::{is_axis, is_free};
 use refusal::{lowest, unless};
@@ -311,7 +311,7 @@ pub fn friction_row(
     ensures { out result j.new wj.new ≡ friction_answer arm link axis dt cfm_coeff mass.now j.old wj.old }
 {
     let friction = friction_at(arm, link, axis);
-    let fine = finite(dt) & finite(cfm_coeff);
+    let fine = dt.is_finite() & cfm_coeff.is_finite();
     let ordered = !(friction * dt < 0.0);
     let bounds = friction_bounds(friction, dt);
     axis_row(

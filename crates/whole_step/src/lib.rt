@@ -10,7 +10,6 @@ use arm::{
     Arm, Edited, Link, Row, RowName, angle_fits, arm_refusal, is_finite_joint, live_links,
     row_number, with_joint, with_links,
 };
-use floats::finite;
 use full_working::{tables_fit, work_all};
 use limits::LINKS;
 use masks::dofs;
@@ -85,7 +84,7 @@ fn step_refusal(arm: Arm, new: Arm, tables: &[f32], dt: f32) -> u8
     let tests = step_tests(new);
     let refusals = [
         unless(tables_fit(tables), 1),
-        unless(finite(dt), 7),
+        unless(dt.is_finite(), 7),
         unless(tests.angles, 9),
         arm_refusal(arm),
         unless(tests.floats, 12),
