@@ -1,9 +1,10 @@
 -- The rotation of an angle, by document 01's 'Rotation'. Each constant stands by its f32 bits, each sum and product in its order.
-use Rattle.std.specs.Prelude.{ℕ, zero, suc, ◌+◌, ◌-◌, ◌*◌, ◌%◌, Bool, cond, not, ◌||◌, [], ◌∷◌, pos, Float}
+use Rattle.std.specs.Prelude.{ℕ, zero, suc, ◌+◌, ◌-◌, ◌*◌, ◌%◌, Bool, cond, not, ◌||◌, [], ◌∷◌, pos, Float, Result, Ok, Err}
 use Rattle.std.specs.Float.{binary32}
 use Rattle.std.specs.Float.Ieee.{of_int, neg, lt, le}
 use Rattle.floats.specs.Floats.{f32, zero32, is_finite, plus, minus, times}
-use Rattle.refusal.specs.Refusal.{lowest, unless_of}
+use Rattle.refusal.specs.declared.Refusal.{Refusal}
+use Rattle.refusal.specs.Refusal.{number, lowest, unless_of}
 use Rattle.planar.specs.declared.Rotation.{Rotation}
 use Rattle.planar.specs.declared.Rotated.{Rotated}
 
@@ -85,3 +86,8 @@ rotated_by (suc k) r = record { refusal = suc k; rotation = record { re = zero32
 
 unfoldable pub rotated : Float → Rotated
 rotated t = rotated_by (rotation_refusal t) (rotation_at t)
+
+-- what C is told of a rotation
+abbrev pub rotated_as : Result Rotation Refusal → Rotated
+rotated_as (Ok r) = record { refusal = 0; rotation = r }
+rotated_as (Err e) = record { refusal = number e; rotation = record { re = zero32; im = zero32 } }

@@ -2,10 +2,12 @@
 #![tactic(auto)]
 
 ghost use Rattle.std.specs.Prelude.{◌≡◌, ◌≤◌, ◌<◌, leb};
-ghost use Rattle.planar.specs.Rotation.{quarter_turns, magnitude_of, reduced_by, sine_of, cosine_of, quarter_pair, signed_by, rotation_at, is_beyond, rotation_refusal, rotated};
+ghost use Rattle.refusal.specs.Refusal.{code};
+ghost use Rattle.planar.specs.Rotation.{quarter_turns, magnitude_of, reduced_by, sine_of, cosine_of, quarter_pair, signed_by, rotation_at, is_beyond, rotation_refusal, rotated_as, rotated};
 ghost use Rattle.planar.specs.Poses.{rotation_of, translation_of, posed, identity_pose, rotation_product, turned_by, placed_by, point_difference, pose_product, pose_inverse, is_turn, finite_rotation, finite_point, finite_pose};
 
-use refusal::{lower, unless};
+use floats::Finite;
+use refusal::{Refusal, lowest, unless};
 
 #[repr(C)]
 #[derive(Clone, Copy)]
@@ -130,6 +132,7 @@ fn signed(angle: f32, r: Rotation) -> Rotation
 }
 
 // The rotation of any angle; far from the true one where the angle lies beyond.
+#[tactic(auto, unfolding(crate::specs::Rotation::rotation_at))]
 pub fn rotation_at(angle: f32) -> Rotation
     ensures { result ≡ rotation_at angle }
 {
@@ -142,18 +145,33 @@ pub fn rotation_at(angle: f32) -> Rotation
 const LEAST_ANGLE: f32 = -256.0;
 
 // Does the angle lie beyond 256 either way?
+#[tactic(auto, unfolding(crate::specs::Rotation::is_beyond))]
 pub fn is_beyond(angle: f32) -> bool
     ensures { result ≡ is_beyond angle }
 {
     (angle < LEAST_ANGLE) | (256.0 < angle)
 }
 
-fn rotation_refusal(angle: f32) -> u8
-    ensures { result ≡ rotation_refusal angle }
+#[tactic(auto, unfolding(crate::specs::Rotation::rotation_refusal))]
+fn rotation_refusal(angle: f32) -> Result<(), Refusal>
+    ensures { code result ≡ rotation_refusal angle }
 {
-    lower(unless(angle.is_finite(), 7), unless(!is_beyond(angle), 9))
+    lowest(&[
+        unless(angle.is_finite(), Refusal::NotFinite),
+        unless(!is_beyond(angle), Refusal::Beyond),
+    ])
 }
 
+// The rotation of an angle, or refusal 7 or 9.
+#[tactic(auto, unfolding(crate::specs::Rotation::rotated))]
+pub fn rotate(angle: f32) -> Result<Rotation, Refusal>
+    ensures { rotated_as result ≡ rotated angle }
+{
+    rotation_refusal(angle)?;
+    Ok(rotation_at(angle))
+}
+
+// What a call that makes a rotation answers C: a refusal and a pair of zeros, or 0 and the rotation.
 #[repr(C)]
 #[derive(Clone, Copy)]
 pub struct Rotated {
@@ -161,25 +179,26 @@ pub struct Rotated {
     pub rotation: Rotation,
 }
 
-// The rotation of an angle, or refusal 7 or 9.
-pub fn rotate(angle: f32) -> Rotated
-    ensures { result ≡ rotated angle }
-{
-    let refusal = rotation_refusal(angle);
-    if refusal != 0 {
-        return Rotated {
-            refusal,
-            rotation: Rotation { re: 0.0, im: 0.0 },
-        };
-    }
-    Rotated {
-        refusal: 0,
-        rotation: rotation_at(angle),
+impl From<Result<Rotation, Refusal>> for Rotated {
+    ghost from_gives = { λ r c. c ≡ rotated_as r };
+
+    fn from(answer: Result<Rotation, Refusal>) -> Rotated {
+        match answer {
+            Ok(rotation) => Rotated {
+                refusal: 0,
+                rotation,
+            },
+            Err(refusal) => Rotated {
+                refusal: refusal.number(),
+                rotation: Rotation { re: 0.0, im: 0.0 },
+            },
+        }
     }
 }
 
 // ---- Poses
 
+#[tactic(auto, unfolding(crate::specs::Poses::rotation_of))]
 pub fn rotation_of(p: Pose) -> Rotation
     ensures { result ≡ rotation_of p }
 {
@@ -187,6 +206,7 @@ pub fn rotation_of(p: Pose) -> Rotation
 }
 
 // A pose's translation.
+#[tactic(auto, unfolding(crate::specs::Poses::translation_of))]
 pub fn translation_of(p: Pose) -> Point
     ensures { result ≡ translation_of p }
 {
@@ -194,6 +214,7 @@ pub fn translation_of(p: Pose) -> Point
 }
 
 // The pose of a rotation and a translation.
+#[tactic(auto, unfolding(crate::specs::Poses::posed))]
 pub fn pose_of(r: Rotation, t: Point) -> Pose
     ensures { result ≡ posed r t }
 {
@@ -218,6 +239,7 @@ pub fn identity() -> Pose
 }
 
 // Rotation b, then rotation a.
+#[tactic(auto, unfolding(crate::specs::Poses::rotation_product))]
 pub fn rotation_product(a: Rotation, b: Rotation) -> Rotation
     ensures { result ≡ rotation_product a b }
 {
@@ -228,6 +250,7 @@ pub fn rotation_product(a: Rotation, b: Rotation) -> Rotation
 }
 
 // The point turned by the rotation.
+#[tactic(auto, unfolding(crate::specs::Poses::turned_by))]
 pub fn turned(r: Rotation, p: Point) -> Point
     ensures { result ≡ turned_by r p }
 {
@@ -238,6 +261,7 @@ pub fn turned(r: Rotation, p: Point) -> Point
 }
 
 // The point turned by the pose's rotation, then moved by its translation.
+#[tactic(auto, unfolding(crate::specs::Poses::placed_by))]
 pub fn placed(a: Pose, p: Point) -> Point
     ensures { result ≡ placed_by a p }
 {
@@ -249,6 +273,7 @@ pub fn placed(a: Pose, p: Point) -> Point
 }
 
 // a less b.
+#[tactic(auto, unfolding(crate::specs::Poses::point_difference))]
 pub fn difference(a: Point, b: Point) -> Point
     ensures { result ≡ point_difference a b }
 {
@@ -259,6 +284,7 @@ pub fn difference(a: Point, b: Point) -> Point
 }
 
 // Pose b, then pose a.
+#[tactic(auto, unfolding(crate::specs::Poses::pose_product))]
 pub fn product(a: Pose, b: Pose) -> Pose
     ensures { result ≡ pose_product a b }
 {
@@ -269,6 +295,7 @@ pub fn product(a: Pose, b: Pose) -> Pose
 }
 
 // The pose that takes a pose back.
+#[tactic(auto, unfolding(crate::specs::Poses::pose_inverse))]
 pub fn inverse(p: Pose) -> Pose
     ensures { result ≡ pose_inverse p }
 {
@@ -283,6 +310,7 @@ pub fn inverse(p: Pose) -> Pose
 const LEAST_EXCESS: f32 = -0.001;
 
 // Is re·re + im·im no further than 0.001 from 1?
+#[tactic(auto, unfolding(crate::specs::Poses::is_turn))]
 pub fn is_turn(r: Rotation) -> bool
     ensures { result ≡ is_turn r }
 {
@@ -290,23 +318,31 @@ pub fn is_turn(r: Rotation) -> bool
     (LEAST_EXCESS <= excess) & (excess <= 0.001)
 }
 
-// Are both its floats finite?
-pub fn is_finite_rotation(r: Rotation) -> bool
-    ensures { result ≡ finite_rotation r }
-{
-    r.re.is_finite() & r.im.is_finite()
+// ---- Are all its floats finite?
+
+impl Finite for Rotation {
+    ghost finite = { finite_rotation };
+
+    #[tactic(auto, unfolding(crate::specs::Poses::finite_rotation))]
+    fn is_finite(&self) -> bool {
+        self.re.is_finite() & self.im.is_finite()
+    }
 }
 
-// Are both its floats finite?
-pub fn is_finite_point(p: Point) -> bool
-    ensures { result ≡ finite_point p }
-{
-    p.x.is_finite() & p.y.is_finite()
+impl Finite for Point {
+    ghost finite = { finite_point };
+
+    #[tactic(auto, unfolding(crate::specs::Poses::finite_point))]
+    fn is_finite(&self) -> bool {
+        self.x.is_finite() & self.y.is_finite()
+    }
 }
 
-// Are its four floats finite?
-pub fn is_finite_pose(p: Pose) -> bool
-    ensures { result ≡ finite_pose p }
-{
-    is_finite_rotation(rotation_of(p)) & is_finite_point(translation_of(p))
+impl Finite for Pose {
+    ghost finite = { finite_pose };
+
+    #[tactic(auto, unfolding(crate::specs::Poses::finite_pose))]
+    fn is_finite(&self) -> bool {
+        rotation_of(*self).is_finite() & translation_of(*self).is_finite()
+    }
 }
