@@ -1,31 +1,36 @@
 -- Edits of an arm, refused or not; a free axis' entry lies within the row. Assumes nothing.
-use Prim.Native.Nat.{ℕ, zero, suc, ◌<◌}
+use Prim.Native.Nat.{ℕ, ◌<◌}
 use mathlib.Core.Path.{◌≡◌}
+use Rattle.std.proofs.Common.{Unit, Result, Ok, Err}
+use Rattle.std.specs.Result.{IsErrAnd}
 use mathlib.Core.Bool.{true}
 use native.Mathlib.Omega.{arith}
 use lib.ListN.{length}
 use Rattle.limits.specs.Limits.{link_limit, dof_limit}
+use Rattle.refusal.specs.declared.Refusal.{Refusal}
+use Rattle.refusal.specs.Refusal.{code}
+use Rattle.refusal.proofs.Answers.{passed, refused}
+use Rattle.refusal.proofs.Number.{number-suc}
 use Rattle.masks.specs.Masks.{is_free}
 use Rattle.masks.proofs.Laws.{below_free}
 use Rattle.arm.specs.declared.Arm.{Arm}
-use Rattle.arm.specs.declared.Edited.{Edited}
 use Rattle.arm.specs.declared.RowName.{RowName}
 use Rattle.arm.specs.declared.RowName.TheVariants.{Velocities, Damping, Armature, Frictions, Accelerations}
 use Rattle.arm.specs.Arm.{live_links, mask_at, dof_count_of, row_number}
-use Rattle.arm.specs.Edits.{edited, dof_at}
+use Rattle.arm.specs.Edits.{edited, edited_as, dof_at}
 use Rattle.arm.proofs.Live.{part_within, dof_count_le}
 
--- ---- the answer
+-- ---- the answer: what a `?` gives where t refuses, and the end where it passes
 
-pub edited_none : (n k : ℕ) (old new x : Arm) → n ≡ k → n ≡ 0 → x ≡ new → ◌≡◌ {A = Edited} (record { refusal = 0; arm = x }) (edited k old new)
+pub edited_passed : {A : Type 0} {t : Result A Refusal} {x : A} {k : ℕ} → t ≡ Ok x → code t ≡ k → (old new : Arm) → edited_as new (Ok tt) ≡ edited k old new
 unfolding edited
-edited_none n zero old new x p h e = rw e
-edited_none n (suc k) old new x p h e = absurd (omega arith)
+edited_passed p e old new = rw (passed p e)
 
-pub edited_some : (n k : ℕ) (old new : Arm) → n ≡ k → (n ≡ 0 → ⊥) → ◌≡◌ {A = Edited} (record { refusal = n; arm = old }) (edited k old new)
+pub edited_exit : {A : Type 0} {t : Result A Refusal} {e : Refusal} {k : ℕ} → t ≡ Err e → code t ≡ k → (old new : Arm) (r : Result Unit Refusal)
+    → IsErrAnd r (λ y. y ≡ e) → edited_as old r ≡ edited k old new
 unfolding edited
-edited_some n zero old new p h = absurd (h p)
-edited_some n (suc k) old new p h = rw p
+edited_exit p h old new (Ok x) q = absurd q
+edited_exit p h old new (Err y) q = rw (q, refused p h, number-suc _)
 
 -- ---- rows
 

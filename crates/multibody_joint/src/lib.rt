@@ -4,9 +4,10 @@
 ghost use Rattle.std.specs.Prelude.{◌≡◌, ◌<◌};
 ghost use Rattle.multibody_joint.specs.Joint.{new_joint, with_frames, with_motion, slid_by, body_to_parent, free_joint, fixed_joint, free_pos_set};
 ghost use Rattle.multibody_joint.specs.Motion.{integrated_at, renewed, integrated, on_axis, on_axes};
+ghost use Rattle.multibody_joint.specs.Joint.{joint_finite};
 ghost use Rattle.multibody_joint.specs.Springs.{spring_set, spring_of};
 
-use floats::entry;
+use floats::{Finite, all_finite, entry};
 use masks::{dofs_below, is_free};
 use planar::{Pose, Rotation, identity, rotation_of};
 
@@ -216,5 +217,13 @@ pub fn spring_of(j: Joint, axis: u32) -> Spring
     Spring {
         stiffness: stiffness[at],
         rest: rest[at],
+    }
+}
+
+impl Finite for Joint {
+    ghost finite = { joint_finite };
+
+    fn is_finite(&self) -> bool {
+        self.frame1.is_finite() & self.frame2.is_finite() & all_finite(&self.coordinates) & self.rotation.is_finite() & all_finite(&self.stiffness) & all_finite(&self.rest)
     }
 }
