@@ -1,14 +1,42 @@
 -- How many axes are free, for callers: at most three in all, and below a free axis fewer than in all. Assumes nothing.
 use Prim.Native.Nat.{ℕ, zero, suc, ◌+◌, ◌≤◌, ◌<◌}
-use mathlib.Core.Path.{◌≡◌, refl, ap}
-use mathlib.Core.Bool.{Bool, true, false}
+use mathlib.Core.Path.{◌≡◌, refl, ap, sym}
+use mathlib.Core.Bool.{Bool, true, false, not}
 use native.Mathlib.Omega.{arith}
 use borrow.Author.Tests.{lt-leb}
-use Rattle.masks.specs.Masks.{one, is_free, dofs_below, dofs_of, bit_of}
+use Rattle.std.proofs.Common.{Result, Ok, Err}
+use Rattle.std.specs.Int.{from_bool}
+use Rattle.refusal.specs.declared.Refusal.{Refusal}
+use Rattle.masks.specs.declared.Axis.{Axis}
+use Rattle.masks.specs.declared.Axis.TheVariants.{X, Y, Angle}
+use Rattle.masks.specs.Masks.{axis_number, NamesAxis, is_axis, one, is_free, dofs_below, dofs_of, bit_of}
 
 pub one_le : (b : Bool) → one b ≤ 1
 one_le true = omega arith
 one_le false = omega arith
+
+-- the library's number of a test
+pub from_one : (b : Bool) → from_bool b ≡ one b
+from_one true = refl
+from_one false = refl
+
+pub from_le : (b : Bool) → from_bool b ≤ 1
+from_le true = omega arith
+from_le false = omega arith
+
+-- ---- an axis, and the number that names it
+
+pub number_axis : (a : Axis) → is_axis (axis_number a) ≡ true
+number_axis X = refl
+number_axis Y = refl
+number_axis Angle = refl
+
+-- free is the axis that a number names, where its bit is clear
+pub free_named : (m n : ℕ) (r : Result Axis Refusal) (b : Bool) → NamesAxis n r
+    → ((a : Axis) → r ≡ Ok a → b ≡ not (bit_of m (axis_number a))) → ((e : Refusal) → r ≡ Err e → b ≡ false) → b ≡ is_free m n
+unfolding is_free
+free_named m n (Ok a) b k f g = rw (f a refl, sym k, number_axis a)
+free_named m n (Err e) b k f g = rw (g e refl, k.1)
 
 -- ---- along the axes
 
@@ -73,10 +101,9 @@ pub below-third : (m a : ℕ) {x y : ℕ} → a ≡ 2 → x ≡ one (is_free m 0
 unfolding dofs_below
 below-third m a h p q = rw h (omega arith)
 
-pub below_any : (m a : ℕ) {x y angle : ℕ} → (a ≡ 0 → ⊥) → (a ≡ 1 → ⊥) → (a ≡ 2 → ⊥)
-    → x ≡ one (is_free m 0) → y ≡ one (is_free m 1) → angle ≡ one (is_free m 2) → x + y + angle ≡ dofs_below m a
+pub below_any : (m a : ℕ) {x y angle : ℕ} → 3 ≤ a → x ≡ one (is_free m 0) → y ≡ one (is_free m 1) → angle ≡ one (is_free m 2) → x + y + angle ≡ dofs_below m a
 unfolding dofs_below dofs_of
-below_any m zero n₀ n₁ n₂ p q r = absurd (n₀ refl)
-below_any m (suc zero) n₀ n₁ n₂ p q r = absurd (n₁ refl)
-below_any m (suc (suc zero)) n₀ n₁ n₂ p q r = absurd (n₂ refl)
-below_any m (suc (suc (suc k))) n₀ n₁ n₂ p q r = omega (arith, below_past m k)
+below_any m zero h p q r = absurd (omega arith)
+below_any m (suc zero) h p q r = absurd (omega arith)
+below_any m (suc (suc zero)) h p q r = absurd (omega arith)
+below_any m (suc (suc (suc k))) h p q r = omega (arith, below_past m k)

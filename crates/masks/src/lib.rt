@@ -79,7 +79,7 @@ fn free(mask: u32, axis: u32) -> bool
 
 // `dofs_below`, of any numbers.
 fn free_below(mask: u32, axis: u32) -> usize
-    ensures { (result ≡ dofs_below mask axis) × (result ≤ 3) }
+    ensures { result ≡ dofs_below mask axis }
 {
     let x = usize::from(free(mask, 0));
     let y = usize::from(free(mask, 1));
@@ -100,6 +100,7 @@ pub fn is_free(mask: u8, axis: u32) -> bool
 }
 
 // How many axes are free.
+#[tactic(auto, unfolding(crate::specs::Masks::dofs_of))]
 pub fn dofs(mask: u8) -> usize
     ensures { result ≡ dofs_of mask }
 {
@@ -139,6 +140,7 @@ pub fn dof_count(mask: u32) -> Result<usize, Refusal>
 }
 
 // The DoFs of a mask below an axis.
+#[tactic(auto, using(refusal::proofs::Answers::counted_passed, refusal::proofs::Answers::counted_exit), unfolding(crate::specs::Answers::below_answer))]
 pub fn dof_count_below(mask: u32, axis: u32) -> Result<usize, Refusal>
     ensures { counted result ≡ below_answer mask axis }
 {
@@ -228,10 +230,14 @@ fn constraints_at(locked: u32, limit: u32, motor: u32, axis: Axis) -> usize
 }
 
 // How many velocity constraints a joint's limits and motors make.
+#[tactic(auto, using(refusal::proofs::Answers::counted_passed, refusal::proofs::Answers::counted_exit), unfolding(crate::specs::Answers::constraints_answer, crate::specs::Masks::constraints_of))]
 pub fn num_velocity_constraints(locked: u32, limit: u32, motor: u32) -> Result<usize, Refusal>
     ensures { counted result ≡ constraints_answer locked limit motor }
 {
-    unless(is_mask(locked) & is_mask(limit) & is_mask(motor), Refusal::Mask)?;
+    unless(
+        is_mask(locked) & is_mask(limit) & is_mask(motor),
+        Refusal::Mask,
+    )?;
     let x = constraints_at(locked, limit, motor, Axis::X);
     let y = constraints_at(locked, limit, motor, Axis::Y);
     let angle = constraints_at(locked, limit, motor, Axis::Angle);

@@ -44,3 +44,7 @@ filled_passed p e n row lent q h = rw (passed p e, q, h)
 pub filled_refused : {A B : Type 0} {t : Result A Refusal} {r : Refusal} {k : ℕ} → t ≡ Err r → code t ≡ k → (n : ℕ) (row lent : List B) → out (counted (Err r)) lent ≡ filled k n row lent
 unfolding filled counted_of
 filled_refused {r = r} p e n row lent = rw (refused p e, number-suc r)
+
+pub filled_exit : {A B : Type 0} {t : Result A Refusal} {e : Refusal} {k : ℕ} → t ≡ Err e → code t ≡ k → (n : ℕ) (row lent : List B) (r : Result ℕ Refusal) → IsErrAnd r (λ y. y ≡ e) → out (counted r) lent ≡ filled k n row lent
+filled_exit p h n row lent (Ok x) q = absurd q
+filled_exit p h n row lent (Err y) q = rw q (filled_refused p h n row lent)
