@@ -115,6 +115,7 @@ pub fn dofs_below(mask: u8, axis: u32) -> usize
 }
 
 // The default damping of a DoF on an axis.
+#[tactic(auto, unfolding(crate::specs::Masks::damping_of))]
 pub fn axis_damping(axis: u8) -> f32
     ensures { result ≡ damping_of axis }
 {
@@ -181,6 +182,7 @@ fn starts_refusal(masks: &[u8], room: usize) -> Result<(), Refusal>
 }
 
 // The start of each mask of a bare list, a byte each, and the total. Any mask may come first: a bare list has no root.
+#[tactic(auto, using(refusal::proofs::Answers::passed, refusal::proofs::Answers::filled_passed, refusal::proofs::Answers::filled_exit, crate::proofs::Answers::starts_fit), unfolding(crate::specs::Answers::starts_answer))]
 pub fn starts(masks: &[u8], lent: &mut [u8]) -> Result<usize, Refusal>
     ensures { out (counted result) lent.new ≡ starts_answer masks.now lent.old }
 {
@@ -214,6 +216,7 @@ fn damping_refusal(mask: u32, room: usize) -> Result<(), Refusal>
 }
 
 // The default damping row of a mask: one entry for each DoF, rising.
+#[tactic(auto, using(refusal::proofs::Answers::passed, refusal::proofs::Answers::filled_passed, refusal::proofs::Answers::filled_exit, crate::proofs::Answers::damping_fits), unfolding(crate::specs::Answers::damping_answer))]
 pub fn default_damping(mask: u32, lent: &mut [f32]) -> Result<usize, Refusal>
     ensures { out (counted result) lent.new ≡ damping_answer mask lent.old }
 {
