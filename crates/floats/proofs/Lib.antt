@@ -1,6 +1,6 @@
 pub mod FiniteRows
+pub mod Folds
 pub mod Parts
 pub mod Rows
 pub mod Sticky
-pub mod Sums
 pub mod Zeros

@@ -65,3 +65,12 @@ overlaid_parts (x ∷ xs) (y ∷ ys) = ap (λ (l : List Float). y ∷ l) (overla
 -- over the front of a list that is no shorter
 pub overlaid_front : (n : ℕ) (s p : List Float) → length p ≡ n → n ≤ length s → overlaid s p ≡ p ++ drop n s
 overlaid_front n s p e h = overlaid_parts s p ∙ rw (take_all (length s) p (omega arith), e)
+
+-- the same, where both are cut at the shorter length
+pub overlaid_cut : (n : ℕ) (d s : List Float) → n ≡ min (length d) (length s) → take n s ++ drop n d ≡ overlaid d s
+overlaid_cut zero [] s h = refl
+overlaid_cut (suc n) [] s h = absurd (omega arith)
+overlaid_cut zero (x ∷ xs) [] h = refl
+overlaid_cut (suc n) (x ∷ xs) [] h = absurd (omega arith)
+overlaid_cut zero (x ∷ xs) (y ∷ ys) h = absurd (omega arith)
+overlaid_cut (suc n) (x ∷ xs) (y ∷ ys) h = ap (λ (l : List Float). y ∷ l) (overlaid_cut n xs ys (omega arith))

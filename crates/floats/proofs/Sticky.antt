@@ -4,12 +4,13 @@ use mathlib.Core.Bool.{true, false}
 use mathlib.Core.List.{List, [], ◌∷◌}
 use lib.Ieee.{Float, nan, inf, fin, binary32, add, sub, neg, div}
 use Rattle.lists.proofs.Bools.{both_hold, both}
+use Rattle.std.specs.Float.{float_is_finite}
 use Rattle.floats.specs.Floats.{is_finite, all_finite, zip_to}
 
 -- ---- floats
 
 pub finite_sub : (x y : Float) → is_finite (sub binary32 x y) ≡ true → is_finite x ≡ true
-unfolding sub add neg
+unfolding sub add neg float_is_finite
 finite_sub nan y h = h
 finite_sub (inf s) nan h = h
 finite_sub (inf true) (inf true) h = h
@@ -20,7 +21,7 @@ finite_sub (inf s) (fin t n d) h = h
 finite_sub (fin s m e) y h = refl
 
 pub finite_taken : (x y : Float) → is_finite (sub binary32 x y) ≡ true → is_finite y ≡ true
-unfolding sub add neg
+unfolding sub add neg float_is_finite
 finite_taken nan nan h = h
 finite_taken nan (inf s) h = h
 finite_taken x (fin s m e) h = refl
@@ -33,7 +34,7 @@ finite_taken (fin s m e) nan h = h
 finite_taken (fin s m e) (inf t) h = h
 
 pub finite_div : (x y : Float) → is_finite (div binary32 x y) ≡ true → is_finite x ≡ true
-unfolding div
+unfolding div float_is_finite
 finite_div nan y h = h
 finite_div (inf s) nan h = h
 finite_div (inf s) (inf t) h = h

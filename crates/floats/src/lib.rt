@@ -40,6 +40,7 @@ pub fn entry(row: &[f32], k: usize) -> f32
 }
 
 // The floats of `from` go into the front of `to`, as many as both have.
+#[tactic(auto, using(crate::proofs::Rows::overlaid_cut))]
 pub fn copy(to: &mut [f32], from: &[f32])
     ensures { to.new ≡ overlaid to.old from.now }
 {
