@@ -1,10 +1,11 @@
 -- A link's branch is its parent's with the link behind it: j steps up from link j are enough, as each goes to an earlier link.
 use Prim.Native.Nat.{ℕ, zero, suc, min, ◌+◌, ◌≤◌, ◌<◌}
-use mathlib.Core.Path.{◌≡◌, refl, sym}
+use mathlib.Core.Path.{◌≡◌, refl, sym, ◌∙◌}
 use mathlib.Core.Bool.{Bool, true, false, cond, ◌||◌, or-false, or_comm}
 use mathlib.Core.List.{List, [], ◌∷◌, ◌++◌}
 use native.Mathlib.Omega.{arith}
-use borrow.Author.Tests.{ltb-true, lt-ltb, le-ltb}
+use native.Mathlib.Decide.{dec_lt}
+use borrow.Author.Tests.{ltb-true, lt-ltb, le-ltb, eq-eqb}
 use lib.ListN.{length, replicate, length-append}
 use Rattle.lists.proofs.Numbers.{Filled, filled_all, stands_snoc}
 use Rattle.lists.specs.Numbers.{stands_in}
@@ -63,6 +64,13 @@ module _ (ps : List ℕ) where
     pub mark_more : j < length ps → parent_in ps j < j → at_or_below ps i j ≡ (eqb j i || at_or_below ps i (parent_in ps j))
     unfolding at_or_below
     mark_more h g = rw (branch_more j h g, stands_snoc) (or_comm _ (eqb j i))
+
+    -- a link is at or below itself
+    pub mark_itself : j < length ps → j ≡ i → at_or_below ps i j ≡ true
+    mark_itself h e = elim (dec_lt (parent_in ps j) j) [
+      | yes p ↦ mark_more h p ∙ rw (eq-eqb j i e)
+      | no p ↦ mark_alone h (omega arith) ∙ eq-eqb j i e
+    ]
 
   -- the marks of an arm are full once the shorter of list and limit is passed
   pub marks_full : (i n j : ℕ) (m : List Bool) → n ≡ min (length ps) link_limit → n ≤ j → Filled (at_or_below ps i) (replicate link_limit false) j m → m ≡ marks ps i

@@ -1,12 +1,16 @@
 -- Rule 4 as numbers: a later link's parent is earlier. Each test is one of the list's.
-use Prim.Native.Nat.{ℕ, zero, suc, ◌+◌, ◌<◌}
-use mathlib.Core.Path.{◌≡◌, refl}
+use Prim.Native.Nat.{ℕ, zero, suc, ◌+◌, ◌≤◌, ◌<◌}
+use mathlib.Core.Path.{◌≡◌, refl, sym, ap, ap₂, ◌∙◌}
 use mathlib.Core.Bool.{Bool, true, ◌&&◌}
 use mathlib.Core.List.{List}
 use native.Mathlib.Omega.{arith}
 use native.Mathlib.Numerals.{add-one}
 use borrow.Author.Tests.{ltb-true}
-use lib.ListN.{length}
+use lib.ListN.{length, take, get_or}
+use lib.Seq.{take_all}
+use Rattle.std.specs.List.{list_all, enumerate_from}
+use Rattle.std.proofs.lemmas.List.Folds.{list_all_more}
+use Rattle.std.proofs.lemmas.List.FromFn.{length-enumerate_from, get_or-enumerate_from}
 use lib.Dec.{eqb, ltb}
 use Rattle.lists.proofs.Numbers.{all_at}
 use Rattle.lists.specs.Numbers.{all_below}
@@ -26,17 +30,23 @@ later (suc j) p h = refl
 abbrev pub fit_to : List ℕ → ℕ → Bool
 fit_to ps n = all_below n (λ j. parent_fits j (parent_in ps j))
 
-pub fit_none : (ps : List ℕ) → true ≡ fit_to ps 0
+fit_front : (ps : List ℕ) (n : ℕ) → n ≤ length ps → list_all (λ (p : ℕ × ℕ). parent_fits p.0 p.1) (take n (enumerate_from 0 ps)) ≡ fit_to ps n
 unfolding all_below
-fit_none ps = refl
+fit_front ps zero h = refl
+fit_front ps (suc n) h =
+    let test = λ (p : ℕ × ℕ). parent_fits p.0 p.1 in
+    let l : n < length (enumerate_from 0 ps) = rw length-enumerate_from (omega arith) in
+    let same : 0 + n ≡ n = omega arith in
+    let at : get_or (enumerate_from 0 ps) n (0, 0) ≡ (n, get_or ps n 0) = rw same at (get_or-enumerate_from 0 ps n (0, 0) (omega arith)) in
+    rw add-one at (list_all_more test (enumerate_from 0 ps) n (0, 0) l)
+    ∙ ap₂ ◌&&◌ (fit_front ps n (omega arith)) (ap test at)
 
-pub fit_more : (ps : List ℕ) (j : ℕ) (fit r : Bool) → fit ≡ fit_to ps j → r ≡ parent_fits j (parent_in ps j) → (fit && r) ≡ fit_to ps (j + 1)
-unfolding all_below
-fit_more ps j fit r e q = rw (add-one, e, q)
-
-pub fit_all : (ps : List ℕ) (j : ℕ) (fit : Bool) → fit ≡ fit_to ps j → j ≡ length ps → fit ≡ parents_fit ps
+-- each link tested beside its number
+pub fit_each : (ps : List ℕ) → list_all (λ (p : ℕ × ℕ). parent_fits p.0 p.1) (enumerate_from 0 ps) ≡ parents_fit ps
 unfolding parents_fit
-fit_all ps j fit e q = rw q at e
+fit_each ps =
+    ap (list_all (λ (p : ℕ × ℕ). parent_fits p.0 p.1)) (sym (take_all (length ps) (enumerate_from 0 ps) (rw length-enumerate_from (omega arith))))
+    ∙ fit_front ps (length ps) (omega arith)
 
 module _ (ps : List ℕ) (fit : parents_fit ps ≡ true) where
   at : (j : ℕ) → j < length ps → parent_fits j (parent_in ps j) ≡ true

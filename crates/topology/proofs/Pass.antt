@@ -1,6 +1,6 @@
 -- Parts in one rising pass: a head's part is its rank, any other survivor's is its parent's, which survives too. By the link's number.
 use Prim.Native.Nat.{ℕ, zero, suc, ◌+◌, ◌≤◌, ◌<◌}
-use mathlib.Core.Path.{◌≡◌, refl, sym, ◌∙◌}
+use mathlib.Core.Path.{◌≡◌, refl, sym, ap, ◌∙◌}
 use mathlib.Core.Bool.{Bool, true, false, not, ◌||◌, true≢false}
 use mathlib.Core.List.{List}
 use native.Mathlib.Omega.{arith}
@@ -14,7 +14,9 @@ use Rattle.lists.proofs.Bools.{both_hold}
 use Rattle.topology.specs.declared.Split.{Split}
 use Rattle.topology.specs.declared.Split.TheVariants.{Delete, Cut}
 use Rattle.topology.specs.Parents.{parents_fit, parent_in}
-use Rattle.topology.specs.Split.{survives, head_of, is_head, rank, part_count, nearest_head, part_of, gone, part_byte}
+use Rattle.topology.specs.Split.{survives, head_of, is_head, rank, part_count, nearest_head, part_of}
+use Rattle.topology.specs.Numbered.{part_if_any}
+use Rattle.std.proofs.Common.{Option, Some, None}
 use Rattle.topology.specs.Words.{Survivor}
 use Rattle.topology.proofs.Fitting.{earlier}
 use Rattle.topology.proofs.Branch.{branch_alone, branch_more}
@@ -103,43 +105,46 @@ module _ (ps : List ℕ) (s : Split) where
 
   -- ---- one rising pass over a table l₀ that is long enough: the first j links have their parts, and the heads among them are counted
 
-  pub record Passed (l₀ : List ℕ) (j : ℕ) (l : List ℕ) (count : ℕ) : Type 0 where
+  pub record Passed (l₀ : List (Option ℕ)) (j : ℕ) (l : List (Option ℕ)) (count : ℕ) : Type 0 where
     pub counted : count ≡ rank ps s j
-    pub filled : Filled (part_byte ps s) l₀ j l
+    pub filled : Filled (part_if_any ps s) l₀ j l
 
-  pub passed_none : (l₀ : List ℕ) → Passed l₀ 0 l₀ 0
+  pub passed_none : (l₀ : List (Option ℕ)) → Passed l₀ 0 l₀ 0
   unfolding rank count_below
-  passed_none l₀ = record { counted = refl; filled = filled_none (part_byte ps s) l₀ }
+  passed_none l₀ = record { counted = refl; filled = filled_none (part_if_any ps s) l₀ }
 
   pub rank_le : (j : ℕ) → rank ps s j ≤ j
   unfolding rank
   rank_le j = count_le (is_head ps s) j
 
-  module _ (l₀ : List ℕ) (long : length ps ≤ length l₀) (j : ℕ) (h : j < length ps) (l : List ℕ) (count : ℕ) (t : Passed l₀ j l count) where
-    pub passed_head : is_head ps s j ≡ true → Passed l₀ (j + 1) (set l j count) (count + 1)
-    unfolding rank count_below part_byte is_head
+  module _ (l₀ : List (Option ℕ)) (long : length ps ≤ length l₀) (j : ℕ) (h : j < length ps) (l : List (Option ℕ)) (count : ℕ) (t : Passed l₀ j l count) where
+    pub passed_head : is_head ps s j ≡ true → Passed l₀ (j + 1) (set l j (Some count)) (count + 1)
+    unfolding rank count_below part_if_any is_head
     passed_head e = record {
       counted = rw (add-one count, add-one j, t.counted, e);
-      filled = filled_more (part_byte ps s) l₀ j l count (omega arith) t.filled (t.counted ∙ sym (rw (head_survives s j (parent_in ps j) e) (part_head j h e)));
+      filled = filled_more (part_if_any ps s) l₀ j l (Some count) (omega arith) t.filled
+          (ap Some t.counted ∙ sym (rw (head_survives s j (parent_in ps j) e) (ap Some (part_head j h e))));
     }
 
-    pub passed_body : parents_fit ps ≡ true → is_head ps s j ≡ false → survives s j ≡ true → Passed l₀ (j + 1) (set l j (get_or l (parent_in ps j) 0)) count
-    unfolding rank count_below part_byte
+    pub passed_body : parents_fit ps ≡ true → is_head ps s j ≡ false → survives s j ≡ true → Passed l₀ (j + 1) (set l j (get_or l (parent_in ps j) None)) count
+    unfolding rank count_below part_if_any
     passed_body fit e a =
         let p = parent_earlier fit j h a e in
-        let above : get_or l (parent_in ps j) 0 ≡ part_byte ps s j = filled_at (part_byte ps s) l₀ j l (parent_in ps j) 0 t.filled p ∙ rw (a, parent_survives fit j h a e) (sym (part_body fit j h a e)) in
+        let above : get_or l (parent_in ps j) None ≡ part_if_any ps s j =
+        filled_at (part_if_any ps s) l₀ j l (parent_in ps j) None t.filled p ∙ rw (a, parent_survives fit j h a e) (ap Some (sym (part_body fit j h a e))) in
         record {
           counted = rw (add-one j, t.counted, e);
-          filled = filled_more (part_byte ps s) l₀ j l (get_or l (parent_in ps j) 0) (omega arith) t.filled above;
+          filled = filled_more (part_if_any ps s) l₀ j l (get_or l (parent_in ps j) None) (omega arith) t.filled above;
         }
 
-    pub passed_gone : is_head ps s j ≡ false → survives s j ≡ false → Passed l₀ (j + 1) (set l j gone) count
-    unfolding rank count_below part_byte
+    pub passed_gone : is_head ps s j ≡ false → survives s j ≡ false → Passed l₀ (j + 1) (set l j None) count
+    unfolding rank count_below part_if_any
     passed_gone e a = record {
       counted = rw (add-one j, t.counted, e);
-      filled = filled_more (part_byte ps s) l₀ j l gone (omega arith) t.filled (rw a);
+      filled = filled_more (part_if_any ps s) l₀ j l None (omega arith) t.filled (rw a);
     }
 
-  pub passed_all : (l₀ : List ℕ) (j : ℕ) (l : List ℕ) (count : ℕ) → Passed l₀ j l count → j ≡ length ps → (count ≡ part_count ps s) × (take (length ps) l ≡ each (length ps) (part_byte ps s))
+  pub passed_all : (l₀ : List (Option ℕ)) (j : ℕ) (l : List (Option ℕ)) (count : ℕ) → Passed l₀ j l count → j ≡ length ps
+      → (count ≡ part_count ps s) × (take (length ps) l ≡ each (length ps) (part_if_any ps s))
   unfolding rank part_count
   passed_all l₀ j l count t e = (rw e at t.counted, rw e at t.filled.front)

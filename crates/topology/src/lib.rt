@@ -30,11 +30,13 @@ pub fn parent_fits(j: usize, p: usize) -> bool
 }
 
 // Rule 4 for every link of a list.
-#[tactic(auto, using(crate::proofs::Fitting::fit_each))]
 pub fn parents_fit(parents: &[u8]) -> bool
     ensures { result ≡ parents_fit parents.now }
 {
-    parents.iter().enumerate().all(|(j, p)| parent_fits(j, *p as usize))
+    parents
+        .iter()
+        .enumerate()
+        .all(|(j, p)| parent_fits(j, *p as usize))
 }
 
 // The refusal of a call that asks for a link of a list; `enough`: the lent memory is long enough.
@@ -60,6 +62,7 @@ pub fn branch_length(parents: &[u8], link: usize) -> usize
     let mut j = link;
     let mut p = parents[j] as usize;
     let mut n = 1;
+    // A climb from parent to parent: no iterator of the library goes that way.
     while p < j {
         j = p;
         p = parents[j] as usize;
@@ -156,12 +159,14 @@ fn parts_of(parents: &[u8], s: Split) -> Parts
     let mut count = 0;
     for j in 0..parents.len() {
         let p = parents[j] as usize;
-        if s.is_head(j, p) {
-            of[j] = Some(count);
+        of[j] = if s.is_head(j, p) {
             count += 1;
+            Some(count - 1)
         } else if s.is_survivor(j) {
-            of[j] = of[p];
-        }
+            of[p]
+        } else {
+            None
+        };
     }
     Parts { of, count }
 }

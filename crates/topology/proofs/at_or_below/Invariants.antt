@@ -3,13 +3,8 @@ use Rattle.lists.proofs.Numbers.{Filled}
 use mathlib.Core.Bool.{false}
 use Rattle.limits.specs.Limits.{link_limit}
 use Rattle.topology.specs.Parents.{at_or_below}
-use lib.ListN.{length, replicate}
-use Prim.Native.Nat.{min, ◌-◌, ◌≤◌}
-use mathlib.Core.Path.{◌≡◌}
+use lib.ListN.{replicate}
 use Rattle.topology.proofs.at_or_below.Given as goal
 
 abbrev pub invariant-loop-j : goal.invariant-loop-j
-invariant-loop-j l = (l.n ≡ min (length l.parents) link_limit) × (l.j ≤ l.n) × Filled (at_or_below l.parents l.link) (replicate link_limit false) l.j l.marks
-
-abbrev pub decreases-loop-j : goal.decreases-loop-j
-decreases-loop-j l = l.n - l.j
+invariant-loop-j l = Filled (at_or_below l.parents l.link) (replicate link_limit false) l.j l.marks

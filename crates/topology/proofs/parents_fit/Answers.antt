@@ -1,15 +1,16 @@
-use Rattle.topology.proofs.Fitting.{fit_all, fit_more, fit_none}
-use native.Mathlib.Omega.{arith}
+-- `parents_fit`: each link is tested beside its number. Assumes nothing.
+use Prim.Native.Nat.{ℕ}
+use mathlib.Core.Path.{◌∙◌}
+use Rattle.std.proofs.Common.{rules, tests}
+use Rattle.std.proofs.lemmas.Iterator.{YieldsList-from_slice}
+use Rattle.std.proofs.lemmas.Iterator.Consumers.{YieldsList-from_enumerate}
+use Rattle.std.proofs.lemmas.Iterator.Search.{all_from_yields_List}
+use Rattle.topology.specs.Parents.{parent_fits}
+use Rattle.topology.proofs.Fitting.{fit_each}
 use Rattle.topology.proofs.parents_fit.Goals as goal
 
-pub loop-j-init : goal.loop-j-init
-loop-j-init c = (omega arith, fit_none c.args.parents.now)
-
-pub overflow_cast-parents : goal.overflow_cast-parents
-overflow_cast-parents c = omega (arith, c.type_inv.parents c.loop-j.j)
-
-pub loop-j-preserved : goal.loop-j-preserved
-loop-j-preserved c = (omega arith, fit_more c.args.parents.now c.loop-j.j _ _ c.loop-j.invariant.1 c.parent_fits-fit.ensures)
-
 pub returns : goal.returns
-returns c = fit_all c.args.parents.now c.loop-j.j _ c.loop-j.invariant.1 (omega arith)
+returns c =
+    all_from_yields_List (λ (p : ℕ × ℕ). parent_fits p.0 p.1) _ _ c.all.result c.all.ensures.ran
+    (YieldsList-from_enumerate (YieldsList-from_slice c.args.parents.now (cc)) (cc)) (λ x b q k. search (rules, tests))
+    ∙ fit_each c.args.parents.now

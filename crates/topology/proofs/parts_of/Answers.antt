@@ -1,28 +1,19 @@
-use mathlib.Core.List.{List}
+use Rattle.std.proofs.Common.{Option, None, List, ℕ}
 use Rattle.topology.specs.Split.{is_head}
-use mathlib.Core.Path.{◌∙◌, sym}
+use mathlib.Core.Path.{◌≡◌, ◌∙◌, sym}
 use Rattle.topology.proofs.Pass.{passed_none, rank_le, parent_earlier, passed_body, passed_gone, passed_head, passed_all}
 use lib.ListN.{length, replicate}
-use Prim.Native.Nat.{◌<◌, ℕ}
+use Prim.Native.Nat.{◌+◌, ◌-◌, ◌<◌}
 use native.Mathlib.Omega.{arith}
 use Rattle.limits.specs.Limits.{link_limit}
 use Rattle.topology.proofs.parts_of.Goals as goal
 use Rattle.topology.proofs.parts_of.Goals.{then-is_head, else-is_head+then-is_survivor, else-is_head+else-is_survivor}
 
 pub loop-j-init : goal.loop-j-init
-loop-j-init c = (omega arith, passed_none c.args.parents.now c.args.s (replicate link_limit 0))
-
-pub overflow_cast-p : goal.overflow_cast-p
-overflow_cast-p c = omega (arith, c.type_inv.parents c.loop-j.j)
-
-pub overflow_cast-of : goal.overflow_cast-of
-overflow_cast-of c = omega (arith, rank_le c.args.parents.now c.args.s c.loop-j.j, c.loop-j.invariant.1.counted, c.requires.parents_len_bound)
-
-pub bounds-of-j : goal.bounds-of-j
-bounds-of-j c = omega (arith, c.requires.parents_len_bound)
+loop-j-init c = passed_none c.args.parents.now c.args.s (replicate link_limit None)
 
 pub overflow_add-count : goal.overflow_add-count
-overflow_add-count c = omega (arith, rank_le c.args.parents.now c.args.s c.loop-j.j, c.loop-j.invariant.1.counted)
+overflow_add-count c = omega (arith, rank_le c.args.parents.now c.args.s c.loop-j.j, c.loop-j.invariant.counted, c.requires.parents_len_bound)
 
 pub bounds-of-p : goal.bounds-of-p
 unfolding is_head
@@ -32,12 +23,6 @@ bounds-of-p c =
     let pre = c.requires in
     omega (arith, parent_earlier c.args.parents.now c.args.s pre.parents_value c.loop-j.j (omega arith) a e, pre.parents_len_bound)
 
-pub bounds-of-j-then-is_survivor : goal.bounds-of-j-then-is_survivor
-bounds-of-j-then-is_survivor c = omega (arith, c.requires.parents_len_bound)
-
-pub bounds-of-j-else-is_survivor : goal.bounds-of-j-else-is_survivor
-bounds-of-j-else-is_survivor c = omega (arith, c.requires.parents_len_bound)
-
 pub loop-j-preserved : goal.loop-j-preserved
 unfolding is_head
 loop-j-preserved c =
@@ -45,18 +30,19 @@ loop-j-preserved c =
     let s = c.args.s in
     let j = c.loop-j.j in
     let h : j < length ps = omega arith in
-    let z : List ℕ = replicate link_limit 0 in
+    let z : List (Option ℕ) = replicate link_limit None in
     let of = c.loop-j.of in
     let n = c.loop-j.count in
-    let t = c.loop-j.invariant.1 in
-    let head = c.is_head.ensures in (
-      omega arith,
-      elim c.if-is_head.branch [
-        | then-is_head w ↦ rw (w.of-is, w.count-is) (passed_head ps s z c.requires.parents_len_bound j h of n t (sym head ∙ w.if-is_head.true))
-        | else-is_head+then-is_survivor w ↦ rw (w.of-is, w.count-is) (passed_body ps s z c.requires.parents_len_bound j h of n t c.requires.parents_value (sym head ∙ w.if-is_head.false) (sym w.is_survivor.ensures ∙ w.if-is_survivor.true))
-        | else-is_head+else-is_survivor w ↦ rw (w.of-is, w.count-is) (passed_gone ps s z c.requires.parents_len_bound j h of n t (sym head ∙ w.if-is_head.false) (sym w.is_survivor.ensures ∙ w.if-is_survivor.false))
-      ],
-    )
+    let t = c.loop-j.invariant in
+    let few = c.requires.parents_len_bound in
+    let head = c.is_head.ensures in
+    elim c.if-is_head.branch [
+      | then-is_head w ↦ let back : n + 1 - 1 ≡ n = omega arith in rw (w.of-is, w.count-is, back) (passed_head ps s z few j h of n t (sym head ∙ w.if-is_head.true))
+      | else-is_head+then-is_survivor w ↦ rw (w.of-is, w.count-is)
+          (passed_body ps s z few j h of n t c.requires.parents_value (sym head ∙ w.if-is_head.false) (sym w.is_survivor.ensures ∙ w.if-is_survivor.true))
+      | else-is_head+else-is_survivor w ↦ rw (w.of-is, w.count-is)
+          (passed_gone ps s z few j h of n t (sym head ∙ w.if-is_head.false) (sym w.is_survivor.ensures ∙ w.if-is_survivor.false))
+    ]
 
 pub returns : goal.returns
-returns c = passed_all c.args.parents.now c.args.s (replicate link_limit 0) c.loop-j.j c.loop-j.of c.loop-j.count c.loop-j.invariant.1 (omega arith)
+returns c = passed_all c.args.parents.now c.args.s (replicate link_limit None) c.loop-j.j c.loop-j.of c.loop-j.count c.loop-j.invariant (omega arith)
