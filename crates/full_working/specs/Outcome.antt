@@ -4,8 +4,7 @@ use Rattle.arm.specs.Setters.{with_links}
 use Rattle.limits.specs.Limits.{table_size}
 use Rattle.arm.specs.declared.Arm.{Arm}
 use Rattle.arm.specs.declared.Edited.{Edited}
-use Rattle.kinematics.specs.declared.Refreshed.{Refreshed}
-use Rattle.kinematics.specs.Answers.{refresh_marked, refresh_all}
+use Rattle.kinematics.specs.Answers.{Refreshed, refresh_marked, refresh_all}
 
 pub record Outcome : Type 0 where
   pub answer : Edited

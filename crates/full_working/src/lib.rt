@@ -2,42 +2,24 @@
 #![tactic(auto)]
 
 ghost use Rattle.std.specs.Prelude.{◌≡◌};
-ghost use Rattle.full_working.specs.Outcome.{out, tables_fit, worked_by, worked_all};
+ghost use Rattle.refusal.specs.Refusal.{code};
+ghost use Rattle.arm.specs.Edits.{edited_as, made_as};
+ghost use Rattle.full_working.specs.Outcome.{out, tables_fit, worked_all};
 ghost use Rattle.full_working.specs.Full.{full_refusal, full_working};
 ghost use Rattle.full_working.specs.Empty.{emptied};
 
-use arm::{Arm, Edited, arm_refusal, empty_arm, with_links};
-use floats::copy;
-use kinematics::{Refreshed, refresh_all};
+use arm::Arm;
+use kinematics::refresh_all;
 use limits::TABLES;
-use refusal::{lower, unless};
+use refusal::{Refusal, lower, unless};
 
 // ---- What a call ends in
 
-// The new arm with its links refreshed, or 12 and the arm given for that.
-fn worked(old: Arm, new: Arm, r: Refreshed) -> Edited
-    ensures { result ≡ worked_by old new r }
+// Every link of the arm is worked out, and all of the tables are rewritten; refused, the arm and the tables stay.
+pub fn work_all(arm: &mut Arm, tables: &mut [f32]) -> Result<(), Refusal>
+    ensures { out (edited_as arm.new result) tables.new ≡ worked_all arm.old arm.old tables.old }
 {
-    if r.fine {
-        let links = r.links;
-        return Edited {
-            refusal: 0,
-            arm: with_links(new, links),
-        };
-    }
-    Edited {
-        refusal: 12,
-        arm: old,
-    }
-}
-
-// Every link of the new arm is worked out, and all of the tables are rewritten; or 12 and the arm given for that, and the tables stay.
-pub fn work_all(old: Arm, new: Arm, tables: &mut [f32]) -> Edited
-    ensures { out result tables.new ≡ worked_all old new tables.old }
-{
-    let links = new.links;
-    let r = refresh_all(links, new.link_count, tables);
-    worked(old, new, r)
+    refresh_all(&mut arm.links, arm.link_count, tables)
 }
 
 // Is the lent memory long enough for the tables?
@@ -49,34 +31,27 @@ pub fn tables_fit(tables: &[f32]) -> bool
 
 // ---- The full working
 
-fn full_refusal(arm: Arm, tables: &[f32]) -> u8
-    ensures { result ≡ full_refusal arm tables.now }
+fn full_refusal(arm: &Arm, tables: &[f32]) -> Result<(), Refusal>
+    ensures { code result ≡ full_refusal arm.now tables.now }
 {
-    lower(unless(tables_fit(tables), 1), arm_refusal(arm))
+    lower(unless(tables_fit(tables), Refusal::Memory), arm.refusal())
 }
 
 // All links, rising; all of the tables are rewritten.
-pub fn full_working(arm: Arm, tables: &mut [f32]) -> Edited
-    ensures { out result tables.new ≡ full_working arm tables.old }
+pub fn full_working(arm: &mut Arm, tables: &mut [f32]) -> Result<(), Refusal>
+    ensures { out (edited_as arm.new result) tables.new ≡ full_working arm.old tables.old }
 {
-    let refusal = full_refusal(arm, tables);
-    if refusal != 0 {
-        return Edited { refusal, arm };
-    }
-    work_all(arm, arm, tables)
+    full_refusal(arm, tables)?;
+    work_all(arm, tables)
 }
 
 // ---- The empty arm
 
 // An arm of no links; its tables hold +0.
-pub fn empty(tables: &mut [f32]) -> Edited
-    ensures { out result tables.new ≡ emptied tables.old }
+pub fn empty(tables: &mut [f32]) -> Result<Arm, Refusal>
+    ensures { out (made_as result) tables.new ≡ emptied tables.old }
 {
-    let arm = empty_arm();
-    if !tables_fit(tables) {
-        return Edited { refusal: 1, arm };
-    }
-    let zeros = [0.0f32; TABLES];
-    copy(tables, &zeros);
-    Edited { refusal: 0, arm }
+    unless(tables_fit(tables), Refusal::Memory)?;
+    tables[..TABLES].fill(0.0);
+    Ok(Arm::empty())
 }

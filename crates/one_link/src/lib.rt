@@ -11,8 +11,5 @@ use limits::BLOCK;
 pub fn is_finite_above(link: usize, parent: u32, tables: &[f32]) -> bool
     ensures { result ≡ above_finite link parent tables.now }
 {
-    if link == 0 {
-        return true;
-    }
-    is_finite_part(tables, (parent as usize) * BLOCK, BLOCK)
+    link == 0 || is_finite_part(tables, (parent as usize) * BLOCK, BLOCK)
 }
