@@ -36,20 +36,21 @@ pub struct Pose {
 // ---- The rotation of an angle
 
 // Does the count of quarter turns come to j? The thresholds rise: it does exactly if the j-th one, an odd eighth of a turn, is at most a.
-fn comes_to(j: u32, a: f32) -> bool
+#[tactic(auto, using(crate::proofs::Turns::passed), unfolding(crate::specs::Rotation::threshold))]
+fn comes_to(j: u16, a: f32) -> bool
     requires { (0 < j) × (j ≤ 163) }
     ensures { result ≡ leb j (quarter_turns a) }
 {
-    ((2 * j - 1) as f32) * 0.7853982 <= a
+    f32::from(2 * j - 1) * 0.7853982 <= a
 }
 
 // How many of the 163 thresholds are at most a. The count lies from k on and below k + size, and a test at the middle halves that: at most 8 tests leave one
 // number. While k is 0 a middle is a constant, and its threshold too: a small angle has the cheapest tests.
-fn quarter_turns(a: f32) -> usize
+fn quarter_turns(a: f32) -> u16
     ensures { result ≡ quarter_turns a }
 {
-    let mut k: u32 = 0;
-    let mut size: u32 = 186;
+    let mut k: u16 = 0;
+    let mut size: u16 = 186;
     while size > 1 {
         let half = size / 2;
         if k == 0 {
@@ -61,7 +62,7 @@ fn quarter_turns(a: f32) -> usize
         }
         size -= half;
     }
-    k as usize
+    k
 }
 
 fn magnitude(angle: f32) -> f32
@@ -107,7 +108,7 @@ fn cosine(r: f32) -> f32
     1.0 + z * (C2 + z * (C4 + z * (C6 + z * C8)))
 }
 
-fn quarter(k: usize, c: f32, s: f32) -> Rotation
+fn quarter(k: u16, c: f32, s: f32) -> Rotation
     ensures { result ≡ quarter_pair k c s }
 {
     match k % 4 {
@@ -138,7 +139,7 @@ pub fn rotation_at(angle: f32) -> Rotation
 {
     let a = magnitude(angle);
     let k = quarter_turns(a);
-    let r = reduced(a, k as f32);
+    let r = reduced(a, f32::from(k));
     signed(angle, quarter(k, cosine(r), sine(r)))
 }
 

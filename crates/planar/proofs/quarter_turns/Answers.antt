@@ -10,27 +10,6 @@ use Rattle.planar.proofs.quarter_turns.Goals.{then-k-eq0+then-comes_to, then-k-e
 pub loop-size-init : goal.loop-size-init
 loop-size-init c = omega (arith, turns_le c.args.a)
 
-pub comes_to-requires : goal.comes_to-requires
-comes_to-requires c = omega arith
-
-pub overflow_add-k : goal.overflow_add-k
-overflow_add-k c = omega arith
-
-pub overflow_add-k-then-k-half-le163 : goal.overflow_add-k-then-k-half-le163
-overflow_add-k-then-k-half-le163 c = omega arith
-
-pub comes_to-requires-then-k-half-le163 : goal.comes_to-requires-then-k-half-le163
-comes_to-requires-then-k-half-le163 c = omega arith
-
-pub overflow_add-k-then-comes_to-2 : goal.overflow_add-k-then-comes_to-2
-overflow_add-k-then-comes_to-2 c = omega arith
-
-pub overflow_sub-size : goal.overflow_sub-size
-overflow_sub-size c = omega arith
-
-pub loop-size-smaller : goal.loop-size-smaller
-loop-size-smaller c = omega arith
-
 -- while k is 0, a middle that the count comes to, and one that it doesn't; later on the same two, and a middle past the last threshold
 pub loop-size-preserved : goal.loop-size-preserved
 loop-size-preserved c =
@@ -55,9 +34,3 @@ loop-size-preserved c =
         | else-k-half-le163-via-else-k-half-le163 v ↦ omega arith
       ]
     ]
-
-pub overflow_cast-result : goal.overflow_cast-result
-overflow_cast-result c = omega arith
-
-pub returns : goal.returns
-returns c = omega arith
