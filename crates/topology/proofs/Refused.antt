@@ -12,12 +12,12 @@ use lib.Dec.{leb, ltb}
 use Rattle.std.proofs.Common.{Result, Ok, Err}
 use Rattle.std.specs.Result.{IsErrAnd}
 use Rattle.refusal.specs.declared.Refusal.{Refusal}
-use Rattle.refusal.specs.Counted.{counted, out, filled}
+use Rattle.refusal.specs.Counted.{counted, out}
 use Rattle.limits.specs.Limits.{link_limit}
 use Rattle.refusal.specs.Refusal.{code, unless_of}
 use Rattle.refusal.proofs.Laws.{is_lowest}
 use Rattle.refusal.proofs.Tests.{holds}
-use Rattle.refusal.proofs.Answers.{passed, filled_passed, filled_refused}
+use Rattle.refusal.proofs.Answers.{passed, filled_passed, filled_exit}
 use Rattle.topology.specs.declared.Split.{Split}
 use Rattle.topology.specs.Parents.{parents_fit, branch}
 use Rattle.topology.specs.Split.{link_of, part_count, split_map}
@@ -41,12 +41,6 @@ module _ {A : Type 0} {t : Result A Refusal} where
         below = ltb-true link (length ps) (holds _ 3 (none _ (inr (inr (inl refl)))));
         fit = holds (parents_fit ps) 3 (none _ (inr (inr (inr (inl refl)))));
       }
-
-  -- at the exit of a `?` the lent memory is left
-  filled_exit : {B : Type 0} {e : Refusal} {k : ℕ} → t ≡ Err e → code t ≡ k → (n : ℕ) (row lent : List B) (r : Result ℕ Refusal) → IsErrAnd r (λ y. y ≡ e)
-      → out (counted r) lent ≡ filled k n row lent
-  filled_exit p h n row lent (Ok x) q = absurd q
-  filled_exit p h n row lent (Err y) q = rw q (filled_refused p h n row lent)
 
   module _ (ps : List ℕ) (link : ℕ) (m : List ℕ) (n : ℕ) (long : n ≡ length (branch ps link)) (e : code t ≡ refusal_of ps link (leb n (length m))) where
     pub branch_refused : {x : Refusal} → t ≡ Err x → (r : Result ℕ Refusal) → IsErrAnd r (λ y. y ≡ x) → out (counted r) m ≡ branch_answer ps link m
