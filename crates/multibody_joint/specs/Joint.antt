@@ -1,9 +1,9 @@
 -- A joint's pose, and root joints, by document 01's 'Joint', 'Split' and 'Root change'.
-use Rattle.std.specs.Prelude.{ℕ, cond, List, [], ◌∷◌, get_or, replicate, Float}
+use Rattle.std.specs.Prelude.{ℕ, Bool, cond, ◌&&◌, List, [], ◌∷◌, get_or, replicate, Float}
 use Rattle.std.specs.Float.{nan}
-use Rattle.floats.specs.Floats.{zero32, plus}
+use Rattle.floats.specs.Floats.{zero32, plus, all_finite}
 use Rattle.masks.specs.Masks.{is_free}
-use Rattle.planar.specs.Poses.{rotation_of, posed, identity_pose, pose_product, pose_inverse}
+use Rattle.planar.specs.Poses.{rotation_of, posed, identity_pose, pose_product, pose_inverse, finite_rotation, finite_pose}
 use Rattle.planar.specs.declared.Rotation.{Rotation}
 use Rattle.planar.specs.declared.Pose.{Pose}
 use Rattle.multibody_joint.specs.declared.Joint.{Joint}
@@ -83,3 +83,10 @@ fixed_joint p = new_joint 7 0 0 p identity_pose
 -- x, y and the rotation; the third coordinate stays
 unfoldable pub free_pos_set : Joint → Pose → Joint
 free_pos_set j p = with_motion j (p.x ∷ p.y ∷ coordinate_of j 2 ∷ []) (rotation_of p)
+
+-- ---- is it finite?
+
+-- frames, coordinates, rotation, springs
+unfoldable pub joint_finite : Joint → Bool
+joint_finite j =
+    ((((finite_pose j.frame1 && finite_pose j.frame2) && all_finite j.coordinates) && finite_rotation j.rotation) && all_finite j.stiffness) && all_finite j.rest

@@ -1,7 +1,7 @@
 -- A joint's springs: a stiffness and a rest for each axis, locked ones too.
-use Rattle.std.specs.Prelude.{ℕ, cond, leb, get_or, set}
+use Rattle.std.specs.Prelude.{ℕ, Bool, cond, ◌&&◌, leb, get_or, set}
 use Rattle.std.specs.Float.{nan}
-use Rattle.floats.specs.Floats.{zero32}
+use Rattle.floats.specs.Floats.{zero32, is_finite}
 use Rattle.multibody_joint.specs.declared.Joint.{Joint}
 use Rattle.multibody_joint.specs.declared.Spring.{Spring}
 use Rattle.multibody_joint.specs.Joint.{with_springs}
@@ -15,3 +15,6 @@ spring_of j axis =
     cond (leb axis 2)
     (record { stiffness = get_or j.stiffness axis nan; rest = get_or j.rest axis nan })
     (record { stiffness = zero32; rest = zero32 })
+
+unfoldable pub spring_finite : Spring → Bool
+spring_finite s = is_finite s.stiffness && is_finite s.rest
