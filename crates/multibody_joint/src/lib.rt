@@ -133,7 +133,11 @@ impl Joint {
 fn slid(j: Joint, axis: Axis, x: f32) -> f32
     ensures { result ≡ slid_by j (axis_number axis) x }
 {
-    if j.is_free(axis) { x + j.coordinate(axis) } else { x }
+    if j.is_free(axis) {
+        x + j.coordinate(axis)
+    } else {
+        x
+    }
 }
 
 // The link's pose in its parent's frame.
@@ -159,7 +163,11 @@ fn integrated_at(j: Joint, axis: Axis, velocities: &[f32], dt: f32) -> f32
     ensures { result ≡ integrated_at j velocities.now dt (axis_number axis) }
 {
     let q = j.coordinate(axis);
-    if j.is_free(axis) { q + j.entry(velocities, axis) * dt } else { q }
+    if j.is_free(axis) {
+        q + j.entry(velocities, axis) * dt
+    } else {
+        q
+    }
 }
 
 // A free angle renews the joint's rotation.
@@ -167,7 +175,11 @@ fn integrated_at(j: Joint, axis: Axis, velocities: &[f32], dt: f32) -> f32
 fn renewed_rotation(j: Joint, angle: f32) -> Rotation
     ensures { result ≡ renewed j angle }
 {
-    if j.is_free(Axis::Angle) { planar::rotation_at(angle) } else { j.rotation }
+    if j.is_free(Axis::Angle) {
+        planar::rotation_at(angle)
+    } else {
+        j.rotation
+    }
 }
 
 // The joint after dt. The velocities begin with its own; one that is missing counts as +0.
@@ -184,7 +196,11 @@ pub fn integrate(j: Joint, velocities: &[f32], dt: f32) -> Joint
 fn on_axis(j: Joint, axis: Axis, accelerations: &[f32]) -> f32
     ensures { result ≡ on_axis j accelerations.now (axis_number axis) }
 {
-    if j.is_free(axis) { j.entry(accelerations, axis) } else { 0.0 }
+    if j.is_free(axis) {
+        j.entry(accelerations, axis)
+    } else {
+        0.0
+    }
 }
 
 // The accelerations, which begin with the joint's own, put on their axes.
