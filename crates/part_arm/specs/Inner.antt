@@ -1,13 +1,11 @@
 -- What inner functions are shown to do: no entry point's promise cites it.
-use Rattle.std.specs.Prelude.{ℕ, ◌+◌, ◌*◌, Bool, List, eqb, length, get_or}
+use Rattle.std.specs.Prelude.{ℕ, ◌+◌, ◌*◌, ◌<◌, ◌≡◌, Bool, cond, Option, Some, None, List, eqb, length, get_or}
+use Rattle.std.specs.Option.{option_to_list}
 use Rattle.topology.specs.Split.{gone}
-use Rattle.arm.specs.Empty.{empty_arm}
-use Rattle.lists.specs.Lists.{laid}
-use Rattle.arm.specs.declared.Arm.{Arm}
-use Rattle.part_arm.specs.declared.LinksOut.{LinksOut}
-use Rattle.part_arm.specs.declared.CouplingsOut.{CouplingsOut}
+use Rattle.arm.specs.declared.Link.{Link}
+use Rattle.arm.specs.declared.Coupling.{Coupling}
 use Rattle.part_arm.specs.Places.{Places}
-use Rattle.part_arm.specs.Part.{part_links, part_couplings}
+use Rattle.part_arm.specs.Part.{new_link, coupling_stays, new_coupling}
 
 -- ---- where links go, as a split map tells it: two bytes a link, and who has number 0 is the head
 
@@ -26,10 +24,16 @@ head_in map j = eqb (number_in map j) 0
 abbrev pub places_in : List ℕ → ℕ → Places
 places_in map k = record { here = here_in map k; head = head_in map; number = number_in map }
 
--- ---- the links and the couplings of a part with their counts, as a pass over the arm leaves them
+-- ---- a link and a coupling of the arm as the part has them, if it does
 
-unfoldable pub links_out : Places → Arm → LinksOut
-links_out p a = record { count = length (part_links p a); links = laid (part_links p a) empty_arm.links }
+unfoldable pub link_if_here : Places → ℕ → Link → Option Link
+link_if_here p j l = cond (p.here j) (Some (new_link (p.head j) (p.number l.parent) l)) None
 
-unfoldable pub couplings_out : Places → Arm → CouplingsOut
-couplings_out p a = record { count = length (part_couplings p a); couplings = laid (part_couplings p a) empty_arm.couplings }
+unfoldable pub coupling_if_stays : Places → Coupling → Option Coupling
+coupling_if_stays p c = cond (coupling_stays p c) (Some (new_coupling p.number c)) None
+
+-- ---- a pass over a list, of whose items each is kept as something or not
+
+-- what may be answered of each item is as g has it: one, or none
+abbrev pub Gives : {A : Type 0} → (ℕ → A → Option A → Type 0) → List A → (ℕ → List A) → Type 0
+Gives may xs g = (j : ℕ) (x : _) (r : _) → j < length xs → x ≡ get_or xs j x → may j x r → option_to_list r ≡ g j
