@@ -2,18 +2,22 @@
 use mathlib.Core.Path.{◌≡◌, refl, sym, ap, ◌∙◌}
 use mathlib.Core.Bool.{true}
 use mathlib.Core.List.{List, [], ◌∷◌, ◌++◌, append_assoc}
-use Prim.Native.Nat.{ℕ, zero, suc, ◌+◌, ◌-◌, ◌*◌, ◌/◌, ◌%◌, ◌^◌, ◌≤◌, ◌<◌}
+use Prim.Native.Nat.{ℕ, zero, suc, min, ◌+◌, ◌-◌, ◌*◌, ◌/◌, ◌%◌, ◌^◌, ◌≤◌, ◌<◌}
 use native.Mathlib.Nat.{mod-lt, div-add-mod', div-lt_iff_lt-mul, pow-suc}
 use native.Mathlib.Omega.{arith}
 use borrow.Author.Tests.{ltb-true, lt-ltb}
 use lib.Dec.{ltb}
-use lib.ListN.{length, get_or, take, drop, length-drop, take-append-drop}
-use lib.Seq.{take_at, drop_at, drop-drop, length-take-le}
+use lib.ListN.{length, take, drop, length-drop, take-append-drop}
+use lib.Seq.{take_at, drop_at, drop-drop, length-take-le, take_all}
 use Rattle.numerals.specs.Read.{number_of, number_at, are_bytes}
 use Rattle.lists.proofs.Bools.{both_hold, both}
 use Rattle.numerals.proofs.Storing.{room}
 use Rattle.numerals.specs.Written.{Written, written, bytes_written}
 use Rattle.numerals.specs.Bytes.{little_endian}
+use Rattle.std.specs.Prelude.{replicate}
+use Rattle.std.proofs.lemmas.List.{drop_min}
+use borrow.Author.Rules.{part_to_end}
+use Rattle.std.specs.Int.{w16, w32, from_le_bytes}
 
 pub as_wide : (width n : ℕ) → length (little_endian width n) ≡ width
 as_wide zero n = refl
@@ -81,25 +85,48 @@ module _ (width at : ℕ) (out : List ℕ) (fits : at + width ≤ length out) wh
       ∙ ap (λ (k : ℕ). written (at + k) (take at out ++ bytes ++ drop (at + k) out)) wide
       ∙ ap (written (at + width)) (append_assoc (take at out) bytes _ ∙ ap (λ (l : List ℕ). take at out ++ l) whole ∙ take-append-drop at out)
 
--- ---- piece by piece; what is missing counts as 0
+-- ---- bytes that are missing count as 0
 
-by_one : (l : List ℕ) → get_or l 0 0 + get_or l 1 0 * 256 ≡ number_of (take 2 l)
+zeros : (n : ℕ) → number_of (replicate n 0) ≡ 0
 unfolding number_of
-by_one [] = refl
-by_one (a ∷ []) = omega arith
-by_one (a ∷ b ∷ l) = omega arith
+zeros zero = refl
+zeros (suc n) = rw (zeros n) refl
 
-by_two : (l : List ℕ) → number_at 2 l 0 + number_at 2 l 2 * 65536 ≡ number_of (take 4 l)
+over_zeros : (there : List ℕ) (width n : ℕ) → n ≡ min (length there) width → number_of (take n there ++ drop n (replicate width 0)) ≡ number_of (take width there)
 unfolding number_of
-by_two [] = refl
-by_two (a ∷ []) = omega arith
-by_two (a ∷ b ∷ []) = omega arith
-by_two (a ∷ b ∷ c ∷ []) = omega arith
-by_two (a ∷ b ∷ c ∷ d ∷ l) = omega arith
+over_zeros there zero zero e = refl
+over_zeros there zero (suc n) e = absurd (omega arith)
+over_zeros [] (suc width) zero e = zeros (suc width)
+over_zeros [] (suc width) (suc n) e = absurd (omega arith)
+over_zeros (b ∷ bs) (suc width) zero e = absurd (omega arith)
+over_zeros (b ∷ bs) (suc width) (suc n) e = rw (over_zeros bs width n (omega arith)) refl
 
-module _ (bytes there : List ℕ) (at low high : ℕ) (e : there ≡ drop at bytes) where
-  pub two : low ≡ get_or there 0 0 → high ≡ get_or there 1 0 → low + high * 256 ≡ number_at 2 bytes at
-  two p q = rw (p, q, e) (by_one (drop at bytes))
+-- as many zeros, with the bytes that are there copied over their front
+pub number_of_front : (bytes : List ℕ) (at k width n : ℕ) (front : List ℕ) → k ≡ min at (length bytes) → n ≡ min (length bytes - k) width
+    → front ≡ take n (take (length bytes - k) (drop k bytes)) → number_of (front ++ drop n (replicate width 0)) ≡ number_at width bytes at
+number_of_front bytes at k width n front p q f =
+    let there = part_to_end bytes k in
+    let l = length-drop k bytes in
+    rw (f, there) (over_zeros (drop k bytes) width n (omega arith) ∙ rw (p, drop_min) refl)
 
-  pub four : low ≡ number_at 2 there 0 → high ≡ number_at 2 there 2 → low + high * 65536 ≡ number_at 4 bytes at
-  four p q = rw (p, q, e) (by_two (drop at bytes))
+-- std's numbers of two bytes and of four are these
+
+first_two : (bytes : List ℕ) → from_le_bytes w16 bytes ≡ number_of (take 2 bytes)
+unfolding number_of
+first_two [] = refl
+first_two (a ∷ []) = omega arith
+first_two (a ∷ b ∷ l) = omega arith
+
+first_four : (bytes : List ℕ) → from_le_bytes w32 bytes ≡ number_of (take 4 bytes)
+unfolding number_of
+first_four [] = refl
+first_four (a ∷ []) = omega arith
+first_four (a ∷ b ∷ []) = omega arith
+first_four (a ∷ b ∷ c ∷ []) = omega arith
+first_four (a ∷ b ∷ c ∷ d ∷ l) = omega arith
+
+pub number_of_two : (bytes : List ℕ) → length bytes ≡ 2 → from_le_bytes w16 bytes ≡ number_of bytes
+number_of_two bytes l = first_two bytes ∙ ap number_of (take_all 2 bytes (omega arith))
+
+pub number_of_four : (bytes : List ℕ) → length bytes ≡ 4 → from_le_bytes w32 bytes ≡ number_of bytes
+number_of_four bytes l = first_four bytes ∙ ap number_of (take_all 4 bytes (omega arith))

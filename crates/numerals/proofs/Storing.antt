@@ -10,7 +10,9 @@ use borrow.Author.Tests.{le-leb, lt-leb, lt-ltb, le-ltb, ltb-true, ltb-false}
 use borrow.Author.Rules.{part_to_end}
 use lib.Dec.{ltb}
 use lib.ListN.{length, take, drop, set}
-use lib.Seq.{paste, take-length}
+use lib.Seq.{take-length}
+use borrow.Rule.Slice.PartMut.{put_mid}
+use Rattle.std.proofs.lemmas.Slice.{put_mid-paste}
 use Rattle.lists.proofs.Bools.{both_hold}
 use Rattle.numerals.specs.Written.{written, bytes_written}
 use Rattle.numerals.specs.Decimal.{digit, digits_of, decimal}
@@ -25,8 +27,11 @@ module _ (out : List ℕ) (at : ℕ) (bytes : List ℕ) where
   unfolding bytes_written
   room h = rw (le-leb (at + length bytes) (length out) h)
 
-  pub all_stored : at + length bytes ≤ length out → written (at + length bytes) (paste out at bytes (length bytes)) ≡ bytes_written (written at out) bytes
-  all_stored h = rw (take-length bytes) (sym (room h))
+  -- the bytes copied into their part of the buffer
+  pub all_copied : at + length bytes ≤ length out → (new : List ℕ) → new ≡ bytes
+      → written (at + length bytes) (put_mid at (at + length bytes - at) out new) ≡ bytes_written (written at out) bytes
+  all_copied h new e =
+      rw (put_mid-paste at (at + length bytes - at) out new bytes (length bytes) e (omega arith) refl, take-length bytes) (sym (room h))
 
 -- ---- decimal digits
 

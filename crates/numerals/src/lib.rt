@@ -5,27 +5,22 @@
 ghost use Rattle.std.specs.Prelude.{◌≡◌, ◌≤◌, drop, get_or, length};
 ghost use Rattle.std.specs.Float.{binary32};
 ghost use Rattle.std.specs.Float.Ieee.{of_bits, to_bits};
-ghost use Rattle.numerals.specs.Read.{number_at};
+ghost use Rattle.numerals.specs.Read.{number_of, number_at};
 ghost use Rattle.numerals.specs.Written.{written, bytes_written};
 ghost use Rattle.numerals.specs.Decimal.{decimal, decimal_count};
 ghost use Rattle.numerals.specs.Bytes.{little_endian};
 
 // The bytes, as they are.
+#[tactic(auto, using(crate::proofs::Storing::no_room, crate::proofs::Storing::all_copied))]
 pub fn write_bytes(out: &mut [u8], at: usize, bytes: &[u8]) -> usize
     ensures { written result out.new ≡ bytes_written (written at out.old) bytes.now }
 {
-    if out.len() < at {
+    if out.len() < at || out.len() - at < bytes.len() {
         return at;
     }
-    if out.len() - at < bytes.len() {
-        return at;
-    }
-    let mut i = 0;
-    while i < bytes.len() {
-        out[at + i] = bytes[i];
-        i += 1;
-    }
-    at + i
+    let end = at + bytes.len();
+    out[at..end].copy_from_slice(bytes);
+    end
 }
 
 // ---- Decimal digits
@@ -37,6 +32,7 @@ struct Decimal {
     first: usize,
 }
 
+#[tactic(auto, using(crate::proofs::Storing::more_digits, crate::proofs::Storing::next_digit, crate::proofs::Storing::all_digits))]
 fn decimal_of(number: u32) -> Decimal
     ensures { (result.first ≤ 9) × (length result.digits ≡ 10) × (drop result.first result.digits ≡ decimal number) }
 {
@@ -44,15 +40,16 @@ fn decimal_of(number: u32) -> Decimal
     let mut first: usize = 9;
     let mut rest = number;
     while (9 < rest) & (0 < first) {
-        digits[first] = 48 + (rest % 10) as u8;
+        digits[first] = b'0' + (rest % 10) as u8;
         rest /= 10;
         first -= 1;
     }
-    digits[first] = 48 + (rest % 10) as u8;
+    digits[first] = b'0' + (rest % 10) as u8;
     Decimal { digits, first }
 }
 
 // How many digits a number has.
+#[tactic(auto, using(crate::proofs::Digits::counted))]
 pub fn digit_count(number: u32) -> usize
     ensures { result ≡ decimal_count number }
 {
@@ -60,12 +57,11 @@ pub fn digit_count(number: u32) -> usize
 }
 
 // A number in decimal.
+#[tactic(auto, using(crate::proofs::Storing::rest_of))]
 pub fn write_decimal(out: &mut [u8], at: usize, number: u32) -> usize
     ensures { written result out.new ≡ bytes_written (written at out.old) (decimal number) }
 {
-    let d = decimal_of(number);
-    let digits = d.digits;
-    let first = d.first;
+    let Decimal { digits, first } = decimal_of(number);
     write_bytes(out, at, &digits[first..])
 }
 
@@ -74,76 +70,61 @@ pub fn write_decimal(out: &mut [u8], at: usize, number: u32) -> usize
 pub fn write_u16(out: &mut [u8], at: usize, number: u16) -> usize
     ensures { written result out.new ≡ bytes_written (written at out.old) (little_endian 2 number) }
 {
-    let bytes = [(number % 256) as u8, (number / 256 % 256) as u8];
-    write_bytes(out, at, &bytes)
+    write_bytes(out, at, &number.to_le_bytes())
 }
 
 pub fn write_u32(out: &mut [u8], at: usize, number: u32) -> usize
     ensures { written result out.new ≡ bytes_written (written at out.old) (little_endian 4 number) }
 {
-    let n1 = number / 256;
-    let n2 = n1 / 256;
-    let n3 = n2 / 256;
-    let bytes = [
-        (number % 256) as u8,
-        (n1 % 256) as u8,
-        (n2 % 256) as u8,
-        (n3 % 256) as u8,
-    ];
-    write_bytes(out, at, &bytes)
+    write_bytes(out, at, &number.to_le_bytes())
 }
 
-// The bytes from a position on; none past the end.
-fn from(bytes: &[u8], at: usize) -> &[u8]
-    ensures { result.now ≡ drop at bytes.now }
+// As many bytes as are asked for, from a position on; those that are missing are 0.
+#[tactic(auto, using(crate::proofs::Bytes::number_of_front))]
+fn bytes_at<const N: usize>(bytes: &[u8], at: usize) -> [u8; N]
+    ensures { number_of result ≡ number_at N bytes.now at }
 {
-    if bytes.len() < at {
-        return &bytes[0..0];
-    }
-    &bytes[at..]
-}
-
-// A byte, and 0 where it is missing.
-fn byte(bytes: &[u8], at: usize) -> u8
-    ensures { result ≡ get_or bytes.now at 0 }
-{
-    if at < bytes.len() { bytes[at] } else { 0 }
+    let there = &bytes[at.min(bytes.len())..];
+    let n = there.len().min(N);
+    let mut front = [0u8; N];
+    front[..n].copy_from_slice(&there[..n]);
+    front
 }
 
 // The number at a position; bytes that are missing count as 0.
+#[tactic(auto, using(crate::proofs::Bytes::number_of_two))]
 pub fn read_u16(bytes: &[u8], at: usize) -> u16
     ensures { result ≡ number_at 2 bytes.now at }
 {
-    let there = from(bytes, at);
-    byte(there, 0) as u16 + byte(there, 1) as u16 * 256
+    u16::from_le_bytes(bytes_at(bytes, at))
 }
 
 // The number at a position; bytes that are missing count as 0.
+#[tactic(auto, using(crate::proofs::Bytes::number_of_four))]
 pub fn read_u32(bytes: &[u8], at: usize) -> u32
     ensures { result ≡ number_at 4 bytes.now at }
 {
-    let there = from(bytes, at);
-    read_u16(there, 0) as u32 + read_u16(there, 2) as u32 * 65536
+    u32::from_le_bytes(bytes_at(bytes, at))
 }
 
 // ---- The bits of an f32
 
 // A NaN has many patterns; the one given is the quiet one of no sign.
+#[tactic(auto, using(crate::proofs::Bits::bits_of_nan))]
 pub fn bits_of(x: f32) -> u32
     ensures { result ≡ to_bits binary32 x }
 {
-    if x == x {
-        return f32::to_bits(x);
-    }
-    0x7fc0_0000
+    if x.is_nan() { 0x7fc0_0000 } else { x.to_bits() }
 }
 
 // The f32 of these bits; of a NaN's the NaN.
+#[tactic(auto, using(crate::proofs::Bits::nan_by_bits, crate::proofs::Bits::other_of_bits))]
 pub fn float_of_bits(bits: u32) -> f32
     ensures { result ≡ of_bits binary32 bits }
 {
     if 0x7f80_0000 < bits % 0x8000_0000 {
-        return 0.0 / 0.0;
+        f32::NAN
+    } else {
+        f32::from_bits(bits)
     }
-    f32::from_bits(bits)
 }
