@@ -2,29 +2,24 @@
 // kept of its parent.
 #![tactic(auto)]
 
-ghost use Rattle.std.specs.Prelude.{◌≡◌, min, take};
-ghost use Rattle.one_link_move.specs.Inner.{tests_of, leaf, answered};
-ghost use Rattle.arm.specs.Inner.{handed_in};
-ghost use Rattle.limits.specs.Limits.{link_limit};
-ghost use Rattle.topology.specs.Parents.{marks, parent_in};
+ghost use Rattle.std.specs.Prelude.{◌≡◌};
+ghost use Rattle.refusal.specs.Refusal.{code};
+ghost use Rattle.arm.specs.Arm.{links_of};
+ghost use Rattle.arm.specs.Edits.{edited_as};
 ghost use Rattle.full_working.specs.Outcome.{out};
+ghost use Rattle.one_link_move.specs.Inner.{leaf};
 ghost use Rattle.one_link_move.specs.Change.{coordinate_set, changed};
-ghost use Rattle.one_link_move.specs.Move.{move_refusal, link_moved};
+ghost use Rattle.one_link_move.specs.Move.{axis_fits, axis_free, change_finite, turns_fit, angle_within, move_refusal, link_moved};
 
-use arm::{
-    Arm, Edited, HandedIn, Link, handed_in, live_links, mask_among, start_among, with_inputs,
-    with_joint, with_links,
-};
+use arm::{Arm, Link};
+use floats::Finite;
 use full_working::tables_fit;
 use kinematics::{refresh_marked, refresh_one};
-use limits::{LINKS, fewer};
 use masks::{is_axis, is_free};
-use multibody_joint::{Joint, with_frames};
+use multibody_joint::Joint;
 use one_link::is_finite_above;
-use planar::{
-    Point, Pose, is_beyond, is_finite_point, is_finite_pose, is_turn, rotation_at, rotation_of,
-};
-use refusal::{lowest, unless};
+use planar::{Point, Pose, is_beyond, is_turn, rotation_at, rotation_of};
+use refusal::{Refusal, lowest, unless};
 use topology::at_or_below;
 
 // What a move sets.
@@ -37,181 +32,163 @@ pub enum Change {
 
 // ---- What is tested of a change
 
-#[derive(Clone, Copy)]
-struct ChangeTests {
-    axis: bool,
-    free: bool,
-    floats: bool,
-    turns: bool,
-    angle: bool,
-}
+impl Change {
+    // Rule 5: is its axis one of the three?
+    fn axis_fits(&self) -> bool
+        ensures { result ≡ axis_fits self.now }
+    {
+        match self {
+            Change::Coordinate { axis, .. } => is_axis(*axis),
+            _ => true,
+        }
+    }
 
-fn change_tests(locked: u8, change: Change) -> ChangeTests
-    ensures { result ≡ tests_of locked change }
-{
-    match change {
-        Change::Coordinate { axis, value } => ChangeTests {
-            axis: is_axis(axis),
-            free: is_free(locked, axis),
-            floats: value.is_finite(),
-            turns: true,
-            angle: !((axis == 2) & is_beyond(value)),
-        },
-        Change::Frames { first, second } => ChangeTests {
-            axis: true,
-            free: true,
-            floats: is_finite_pose(first) & is_finite_pose(second),
-            turns: is_turn(rotation_of(first)) & is_turn(rotation_of(second)),
-            angle: true,
-        },
-        Change::Centre(centre) => ChangeTests {
-            axis: true,
-            free: true,
-            floats: is_finite_point(centre),
-            turns: true,
-            angle: true,
-        },
+    // Rule 6: is its axis free?
+    fn axis_free(&self, locked: u8) -> bool
+        ensures { result ≡ axis_free locked self.now }
+    {
+        match self {
+            Change::Coordinate { axis, .. } => is_free(locked, *axis),
+            _ => true,
+        }
+    }
+
+    // Rule 8: are both frames' rotations turns?
+    fn turns_fit(&self) -> bool
+        ensures { result ≡ turns_fit self.now }
+    {
+        match self {
+            Change::Frames { first, second } => {
+                is_turn(rotation_of(*first)) & is_turn(rotation_of(*second))
+            }
+            _ => true,
+        }
+    }
+
+    // Rule 9: does an angle lie within 256 either way?
+    fn angle_within(&self) -> bool
+        ensures { result ≡ angle_within self.now }
+    {
+        match self {
+            Change::Coordinate { axis: 2, value } => !is_beyond(*value),
+            _ => true,
+        }
     }
 }
 
-// ---- What it refuses
+impl Finite for Change {
+    ghost finite = { change_finite };
 
-fn parent_among(parents: [u8; LINKS], count: usize, link: usize) -> u8
-    ensures { result ≡ parent_in (take (min count link_limit) parents) link }
-{
-    if link < live_links(count) {
-        parents[link]
-    } else {
-        0
+    fn is_finite(&self) -> bool {
+        match self {
+            Change::Coordinate { value, .. } => value.is_finite(),
+            Change::Frames { first, second } => first.is_finite() & second.is_finite(),
+            Change::Centre(centre) => centre.is_finite(),
+        }
     }
-}
-
-fn move_refusal(arm: Arm, handed: HandedIn, tables: &[f32], link: u32, change: Change) -> u8
-    requires { handed ≡ handed_in arm }
-    ensures { result ≡ move_refusal arm tables.now link change }
-{
-    let at = link as usize;
-    let masks = handed.masks;
-    let parents = handed.parents;
-    let tests = change_tests(mask_among(masks, arm.link_count, at), change);
-    let parent = parent_among(parents, arm.link_count, at);
-    let above = is_finite_above(at, parent as u32, tables);
-    let refusals = [
-        unless(tables_fit(tables), 1),
-        unless(at < arm.link_count, 4),
-        unless(tests.axis, 5),
-        unless(tests.free, 6),
-        unless(tests.floats & above, 7),
-        unless(tests.turns, 8),
-        unless(tests.angle, 9),
-        handed.refusal,
-    ];
-    lowest(&refusals)
 }
 
 // ---- What it sets
 
 // The coordinate of an axis; the angle renews the rotation. There is no axis above 2.
+#[tactic(auto, unfolding(crate::specs::Change::coordinate_set))]
 fn with_coordinate(j: Joint, axis: u32, value: f32) -> Joint
     ensures { result ≡ coordinate_set axis value j }
 {
-    if 2 < axis {
-        return j;
-    }
-    let at = axis as usize;
     let mut k = j;
-    k.coordinates[at] = value;
-    if axis == 2 {
-        let rotation = rotation_at(value);
-        k.rotation = rotation;
-        return k;
+    match axis {
+        0 | 1 => k.coordinates[axis as usize] = value,
+        2 => {
+            k.coordinates[2] = value;
+            k.rotation = rotation_at(value);
+        }
+        _ => {}
     }
     k
 }
 
-fn with_change(l: Link, change: Change) -> Link
-    ensures { result ≡ changed change l }
-{
-    match change {
-        Change::Coordinate { axis, value } => with_joint(l, with_coordinate(l.joint, axis, value)),
-        Change::Frames { first, second } => with_joint(l, with_frames(l.joint, first, second)),
-        Change::Centre(centre) => with_inputs(l, l.parent, l.joint, centre),
+impl Change {
+    // The link with what the move sets; nothing is worked out.
+    #[tactic(auto, unfolding(crate::specs::Change::changed))]
+    fn applied(&self, link: &Link) -> Link
+        ensures { result ≡ changed self.now link.now }
+    {
+        match *self {
+            Change::Coordinate { axis, value } => Link {
+                joint: with_coordinate(link.joint, axis, value),
+                ..*link
+            },
+            Change::Frames { first, second } => Link {
+                joint: Joint {
+                    frame1: first,
+                    frame2: second,
+                    ..link.joint
+                },
+                ..*link
+            },
+            Change::Centre(centre) => Link { centre, ..*link },
+        }
     }
 }
 
 // ---- The move
 
-// The link and those below it, by the parents of as many links as count.
-fn marks_among(parents: [u8; LINKS], count: usize, link: usize) -> [bool; LINKS]
-    ensures { result ≡ marks (take (min count link_limit) parents) link }
+#[tactic(auto, unfolding(crate::specs::Move::move_refusal))]
+fn move_refusal(arm: &Arm, tables: &[f32], link: u32, change: &Change) -> Result<(), Refusal>
+    ensures { code result ≡ move_refusal arm.now tables.now link change.now }
 {
-    let n = live_links(count);
-    at_or_below(&parents[0..n], link)
+    let at = link as usize;
+    let parent = arm.live_links().get(at).map_or(0, |link| link.parent);
+    lowest(&[
+        unless(tables_fit(tables), Refusal::Memory),
+        unless(at < arm.link_count, Refusal::Link),
+        unless(change.axis_fits(), Refusal::Mask),
+        unless(change.axis_free(arm.mask_at(at)), Refusal::Locked),
+        unless(
+            change.is_finite() & is_finite_above(at, u32::from(parent), tables),
+            Refusal::NotFinite,
+        ),
+        unless(change.turns_fit(), Refusal::NotATurn),
+        unless(change.angle_within(), Refusal::Beyond),
+        arm.refusal(),
+    ])
 }
 
-// Is no link below it? Then no later one has it for a parent, of as many as count.
-fn is_leaf(parents: [u8; LINKS], count: usize, link: usize) -> bool
-    ensures { result ≡ leaf (take (min count link_limit) parents) link }
+// Is no link below it? Then no later one has it for a parent.
+fn is_leaf(links: &[Link], link: u32) -> bool
+    ensures { result ≡ leaf links.now link }
 {
-    let n = live_links(count);
-    let mut ok = true;
-    let mut i = 0;
-    while i < n {
-        ok = ok & ((i <= link) | (parents[i] as usize != link));
-        i += 1;
-    }
-    ok
-}
-
-// The arm with these links, and a refusal or 0. It is put together once, at the end: so the arm is not copied whole in between.
-fn answer(arm: Arm, links: [Link; LINKS], refusal: u8) -> Edited
-    ensures { result ≡ answered refusal arm links }
-{
-    Edited {
-        refusal,
-        arm: with_links(arm, links),
-    }
+    let at = link as usize;
+    links
+        .iter()
+        .skip(at + 1)
+        .all(|later| usize::from(later.parent) != at)
 }
 
 // One link's inputs are changed, and it and the links below it are worked out, rising; nothing else is touched.
-pub fn move_link(arm: Arm, tables: &mut [f32], link: u32, change: Change) -> Edited
-    ensures { out result tables.new ≡ link_moved arm tables.old link change }
+pub fn move_link(
+    arm: &mut Arm,
+    tables: &mut [f32],
+    link: u32,
+    change: Change,
+) -> Result<(), Refusal>
+    ensures { out (edited_as arm.new result) tables.new ≡ link_moved arm.old tables.old link change }
 {
-    let handed = handed_in(arm);
-    let refusal = move_refusal(arm, handed, tables, link, change);
-    let mut links = arm.links;
-    if refusal != 0 {
-        return answer(arm, links, refusal);
-    }
+    move_refusal(arm, tables, link, &change)?;
     let at = link as usize;
-    let parents = handed.parents;
-    let l = links[at];
-    let new = with_change(l, change);
-    if is_leaf(parents, arm.link_count, at) {
-        let masks = handed.masks;
-        let p = fewer(new.parent as usize, at);
-        let above = links[p];
-        let t = refresh_one(
-            new,
-            above,
-            start_among(masks, arm.link_count, at),
-            at,
-            tables,
-        );
-        if !t.fine {
-            return answer(arm, links, 12);
-        }
-        let turned = t.link;
-        links[at] = turned;
-        return answer(arm, links, 0);
+    let mut moved = change.applied(&arm.links[at]);
+    if is_leaf(arm.live_links(), link) {
+        let start = arm.start_of(at);
+        let above = &arm.links[usize::from(moved.parent)];
+        refresh_one(&mut moved, above, start, at, tables)?;
+        arm.links[at] = moved;
+        return Ok(());
     }
-    links[at] = new;
-    let marks = marks_among(parents, arm.link_count, at);
-    let r = refresh_marked(links, arm.link_count, marks, tables);
-    if r.fine {
-        let moved = r.links;
-        return answer(arm, moved, 0);
-    }
-    links[at] = l;
-    answer(arm, links, 12)
+    let parents = arm.parents();
+    let marks = at_or_below(&parents[..arm.link_count], at);
+    let mut links = arm.links;
+    links[at] = moved;
+    refresh_marked(&mut links, arm.link_count, &marks, tables)?;
+    arm.links = links;
+    Ok(())
 }

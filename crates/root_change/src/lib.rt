@@ -2,17 +2,18 @@
 #![tactic(auto)]
 
 ghost use Rattle.std.specs.Prelude.{◌≡◌};
+ghost use Rattle.refusal.specs.Refusal.{code};
+ghost use Rattle.arm.specs.Edits.{edited_as};
 ghost use Rattle.full_working.specs.Outcome.{out};
-ghost use Rattle.root_change.specs.declared.Root.TheVariants.{Free, Fixed};
-ghost use Rattle.root_change.specs.Root.{locked_by, root_pose, root_joint, root_link, widened, narrowed, root_row, root_rows, root_changed, root_refusal, changed_root};
+ghost use Rattle.root_change.specs.Root.{locked_by, root_pose, root_joint, widened, narrowed, root_row, root_changed, root_refusal, changed_root};
 
-use arm::{Arm, Edited, Link, Row, arm_refusal, arm_with, with_joint};
-use floats::copy_part;
+use arm::{Arm, Row};
+use floats::Finite;
 use full_working::{tables_fit, work_all};
 use limits::DOFS;
-use multibody_joint::{Joint, fixed, free, set_free_pos, with_frames};
-use planar::{Pose, is_finite_pose, is_turn, rotation_of};
-use refusal::{lowest, unless};
+use multibody_joint::{Joint, fixed, free, set_free_pos};
+use planar::{Pose, is_turn, rotation_of};
+use refusal::{Refusal, lowest, unless};
 
 // What a root is changed to: free or fixed, at a pose.
 #[derive(Clone, Copy)]
@@ -23,156 +24,114 @@ pub enum Root {
 
 // ---- The root's joint
 
-// The locked mask of what the root becomes.
-fn locked_by(root: Root) -> u8
-    ensures { result ≡ locked_by root }
-{
-    match root {
-        Root::Free(_) => 0,
-        Root::Fixed(_) => 7,
+impl Root {
+    // The locked mask of what the root becomes.
+    fn locked(&self) -> u8
+        ensures { result ≡ locked_by self.now }
+    {
+        match self {
+            Root::Free(_) => 0,
+            Root::Fixed(_) => 7,
+        }
     }
-}
 
-// The pose that it becomes so at.
-fn root_pose(root: Root) -> Pose
-    ensures { result ≡ root_pose root }
-{
-    match root {
-        Root::Free(pose) => pose,
-        Root::Fixed(pose) => pose,
+    // The pose that it becomes so at.
+    fn pose(&self) -> Pose
+        ensures { result ≡ root_pose self.now }
+    {
+        match *self {
+            Root::Free(pose) | Root::Fixed(pose) => pose,
+        }
     }
-}
 
-// Of the same type, a free joint's position is set.
-fn freed(j: Joint, pose: Pose) -> Joint
-    ensures { result ≡ root_joint (Free pose) j }
-{
-    if j.locked == 0 {
-        return set_free_pos(j, pose);
+    // Of the same type, a free joint's position is set, or a fixed joint's frame 1.
+    #[tactic(auto, unfolding(crate::specs::Root::root_joint))]
+    fn joint(&self, old: Joint) -> Joint
+        ensures { result ≡ root_joint self.now old }
+    {
+        match *self {
+            Root::Free(pose) if old.locked == 0 => set_free_pos(old, pose),
+            Root::Free(pose) => free(pose),
+            Root::Fixed(pose) if old.locked == 7 => Joint {
+                frame1: pose,
+                ..old
+            },
+            Root::Fixed(pose) => fixed(pose),
+        }
     }
-    free(pose)
-}
-
-// Of the same type, a fixed joint's frame 1 is set.
-fn fixed_at(j: Joint, pose: Pose) -> Joint
-    ensures { result ≡ root_joint (Fixed pose) j }
-{
-    if j.locked == 7 {
-        return with_frames(j, pose, j.frame2);
-    }
-    fixed(pose)
-}
-
-fn root_joint(j: Joint, root: Root) -> Joint
-    ensures { result ≡ root_joint root j }
-{
-    match root {
-        Root::Free(pose) => freed(j, pose),
-        Root::Fixed(pose) => fixed_at(j, pose),
-    }
-}
-
-fn root_link(l: Link, root: Root) -> Link
-    ensures { result ≡ root_link root l }
-{
-    with_joint(l, root_joint(l.joint, root))
 }
 
 // ---- Rows
 
 // Three zeros come in front; what falls off behind is past every DoF.
-fn widened_row(row: Row) -> Row
-    ensures { result ≡ widened row }
+#[tactic(auto, unfolding(crate::specs::Root::widened))]
+fn widened(row: &Row) -> Row
+    ensures { result ≡ widened row.now }
 {
-    let old = row.entries;
-    let mut entries = [0.0f32; DOFS];
-    copy_part(&mut entries, 3, &old, 0, DOFS - 3);
+    let mut entries = [0.0; DOFS];
+    entries[3..].copy_from_slice(&row.entries[..DOFS - 3]);
     Row { entries }
 }
 
 // The first three go.
-fn narrowed_row(row: Row) -> Row
-    ensures { result ≡ narrowed row }
+#[tactic(auto, unfolding(crate::specs::Root::narrowed))]
+fn narrowed(row: &Row) -> Row
+    ensures { result ≡ narrowed row.now }
 {
-    let old = row.entries;
-    let mut entries = [0.0f32; DOFS];
-    copy_part(&mut entries, 0, &old, 3, DOFS - 3);
+    let mut entries = [0.0; DOFS];
+    entries[..DOFS - 3].copy_from_slice(&row.entries[3..]);
     Row { entries }
 }
 
-fn root_row(row: Row, from: u8, to: u8) -> Row
-    ensures { result ≡ root_row from to row }
+#[tactic(auto, unfolding(crate::specs::Root::root_row))]
+fn root_row(row: &Row, from: u8, to: u8) -> Row
+    ensures { result ≡ root_row from to row.now }
 {
     if from == to {
-        return row;
+        *row
+    } else if to == 0 {
+        widened(row)
+    } else {
+        narrowed(row)
     }
-    if to == 0 {
-        return widened_row(row);
-    }
-    narrowed_row(row)
-}
-
-// Every row alike, the damping too.
-fn root_rows(arm: Arm, root: Root) -> [Row; 5]
-    ensures { result ≡ root_rows arm root }
-{
-    let first = arm.links[0];
-    let from = first.joint.locked;
-    let to = locked_by(root);
-    let mut rows = arm.rows;
-    let mut i = 0;
-    while i < 5 {
-        let old = arm.rows[i];
-        let row = root_row(old, from, to);
-        rows[i] = row;
-        i += 1;
-    }
-    rows
 }
 
 // ---- The change
 
-fn root_changed(arm: Arm, root: Root) -> Arm
-    ensures { result ≡ root_changed arm root }
+// The arm with its root and every row changed alike, the damping too; nothing is worked out.
+fn root_changed(arm: &Arm, root: &Root) -> Arm
+    ensures { result ≡ root_changed arm.now root.now }
 {
-    let rows = root_rows(arm, root);
-    let mut links = arm.links;
-    let old = links[0];
-    let link = root_link(old, root);
-    links[0] = link;
-    let couplings = arm.couplings;
-    arm_with(
-        arm,
-        arm.link_count,
-        arm.coupling_count,
-        links,
-        couplings,
-        rows,
-    )
+    let mut new = *arm;
+    let old = arm.links[0].joint;
+    new.rows = arm
+        .rows
+        .map(|row| root_row(&row, old.locked, root.locked()));
+    new.links[0].joint = root.joint(old);
+    new
 }
 
-fn root_refusal(arm: Arm, tables: &[f32], root: Root) -> u8
-    ensures { result ≡ root_refusal arm tables.now root }
+#[tactic(auto, unfolding(crate::specs::Root::root_refusal))]
+fn root_refusal(arm: &Arm, tables: &[f32], root: &Root) -> Result<(), Refusal>
+    ensures { code result ≡ root_refusal arm.now tables.now root.now }
 {
-    let pose = root_pose(root);
-    let refusals = [
-        unless(tables_fit(tables), 1),
-        unless(0 < arm.link_count, 4),
-        unless(is_finite_pose(pose), 7),
-        unless(is_turn(rotation_of(pose)), 8),
-        arm_refusal(arm),
-    ];
-    lowest(&refusals)
+    let pose = root.pose();
+    lowest(&[
+        unless(tables_fit(tables), Refusal::Memory),
+        unless(0 < arm.link_count, Refusal::Link),
+        unless(pose.is_finite(), Refusal::NotFinite),
+        unless(is_turn(rotation_of(pose)), Refusal::NotATurn),
+        arm.refusal(),
+    ])
 }
 
 // The root is changed, and all of the tables are rewritten.
-pub fn change_root(arm: Arm, tables: &mut [f32], root: Root) -> Edited
-    ensures { out result tables.new ≡ changed_root arm tables.old root }
+pub fn change_root(arm: &mut Arm, tables: &mut [f32], root: Root) -> Result<(), Refusal>
+    ensures { out (edited_as arm.new result) tables.new ≡ changed_root arm.old tables.old root }
 {
-    let refusal = root_refusal(arm, tables, root);
-    if refusal != 0 {
-        return Edited { refusal, arm };
-    }
-    let new = root_changed(arm, root);
-    work_all(arm, new, tables)
+    root_refusal(arm, tables, &root)?;
+    let mut new = root_changed(arm, &root);
+    work_all(&mut new, tables)?;
+    *arm = new;
+    Ok(())
 }

@@ -1,8 +1,0 @@
--- `widened_row`: a part of the row is copied among zeros. Assumes nothing.
-use Rattle.arm.proofs.Shape.{row-length}
-use Rattle.root_change.proofs.Rows.{is_widened}
-use Rattle.root_change.proofs.widened_row.Goals as goal
-
-pub returns : goal.returns
-returns c =
-    is_widened c.args.row (row-length c.args.row c.well_formed.0) _ c.copy_part.ensures
