@@ -1,21 +1,17 @@
 -- `set_spring` of a link's joint: a stiffness and a rest for an axis, locked or not. Link and axis are any numbers.
-use Rattle.std.specs.Prelude.{ℕ, Bool, ◌&&◌, List, ◌∷◌}
+use Rattle.std.specs.Prelude.{ℕ, List, ◌∷◌}
 use Rattle.arm.specs.Setters.{with_links, with_joint}
 use Rattle.lists.specs.Lists.{modify}
 use Rattle.refusal.specs.Refusal.{unless_of, lowest}
-use Rattle.floats.specs.Floats.{is_finite}
 use Rattle.masks.specs.Masks.{is_axis}
 use Rattle.multibody_joint.specs.declared.Spring.{Spring}
-use Rattle.multibody_joint.specs.Springs.{spring_set}
+use Rattle.multibody_joint.specs.Springs.{spring_set, spring_finite}
 use Rattle.arm.specs.declared.Link.{Link}
 use Rattle.arm.specs.declared.Arm.{Arm}
 use Rattle.arm.specs.declared.Edited.{Edited}
 use Rattle.arm.specs.Arm.{is_link}
 use Rattle.arm.specs.Edits.{edited}
 use Rattle.arm.specs.HandedIn.{arm_entries}
-
-unfoldable pub spring_finite : Spring → Bool
-spring_finite s = is_finite s.stiffness && is_finite s.rest
 
 abbrev pub spring_entries : Arm → ℕ → ℕ → Spring → List ℕ
 spring_entries a link axis s =

@@ -1,6 +1,7 @@
 -- What is read of a link's joint: a spring, and accelerations put on their axes.
-use Rattle.std.specs.Prelude.{ℕ, zero, suc, List, ◌∷◌, map, leb, length, take, get_or, Float}
-use Rattle.refusal.specs.Refusal.{unless_of, lowest}
+use Rattle.std.specs.Prelude.{ℕ, zero, suc, List, ◌∷◌, map, leb, length, take, get_or, Float, Result, Ok, Err}
+use Rattle.refusal.specs.declared.Refusal.{Refusal}
+use Rattle.refusal.specs.Refusal.{number, unless_of, lowest}
 use Rattle.floats.specs.Floats.{zero32, all_finite}
 use Rattle.masks.specs.Masks.{is_axis, dofs_of}
 use Rattle.multibody_joint.specs.declared.Spring.{Spring}
@@ -37,6 +38,11 @@ abbrev pub spring_by : ℕ → Spring → SpringAnswer
 spring_by zero s = record { refusal = 0; spring = s }
 spring_by (suc k) s = record { refusal = suc k; spring = no_spring }
 
+-- what C is told of a spring
+abbrev pub spring_as : Result Spring Refusal → SpringAnswer
+spring_as (Ok s) = record { refusal = 0; spring = s }
+spring_as (Err r) = record { refusal = number r; spring = no_spring }
+
 unfoldable pub spring_answer : Arm → ℕ → ℕ → SpringAnswer
 spring_answer a link axis = spring_by (spring_refusal a link axis) (of_link (spring_in axis) no_spring a link)
 
@@ -62,6 +68,11 @@ axes_in accelerations l = on_axes l.joint accelerations
 abbrev pub axes_by : ℕ → List Float → AxesAnswer
 axes_by zero axes = record { refusal = 0; axes = axes }
 axes_by (suc k) axes = record { refusal = suc k; axes = zeros }
+
+-- what C is told of an entry for each axis
+abbrev pub axes_as : Result (List Float) Refusal → AxesAnswer
+axes_as (Ok axes) = record { refusal = 0; axes = axes }
+axes_as (Err r) = record { refusal = number r; axes = zeros }
 
 unfoldable pub mul_answer : Arm → ℕ → List Float → AxesAnswer
 mul_answer a link accelerations = axes_by (mul_refusal a link accelerations) (of_link (axes_in accelerations) zeros a link)

@@ -1,6 +1,8 @@
 -- A row view: a link's own part of the velocities or of the accelerations, out of two lent rows.
-use Rattle.std.specs.Prelude.{ℕ, zero, suc, ◌&&◌, List, [], ◌∷◌, leb, length, Float}
-use Rattle.refusal.specs.Refusal.{unless_of, lowest}
+use Rattle.std.specs.Prelude.{ℕ, zero, suc, ◌&&◌, List, [], ◌∷◌, leb, length, Float, Result, Ok, Err}
+use Rattle.std.specs.Borrow.{Bor}
+use Rattle.refusal.specs.declared.Refusal.{Refusal}
+use Rattle.refusal.specs.Refusal.{number, unless_of, lowest}
 use Rattle.arm.specs.declared.Arm.{Arm}
 use Rattle.arm.specs.Arm.{is_link, dof_count_of, own_part}
 use Rattle.arm.specs.HandedIn.{arm_entries}
@@ -14,6 +16,11 @@ pub record Seen : Type 0 where
 
 abbrev pub seen : List Float → ℕ → Seen
 seen part refusal = record { part = part; refusal = refusal }
+
+-- what is seen of what a call answers: refused, the empty part
+abbrev pub seen_as : Result (Bor (List Float)) Refusal → Seen
+seen_as (Ok part) = seen part.now 0
+seen_as (Err r) = seen [] (number r)
 
 -- the row that is asked for
 abbrev pub row_of : Role → List Float → List Float → List Float

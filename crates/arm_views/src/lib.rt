@@ -3,57 +3,71 @@
 #![tactic(auto)]
 
 ghost use Rattle.std.specs.Prelude.{◌≡◌};
-ghost use Rattle.refusal.specs.Counted.{out};
+ghost use Rattle.refusal.specs.Refusal.{code};
+ghost use Rattle.refusal.specs.Counted.{counted, out};
 ghost use Rattle.arm_views.specs.Numbers.{start_refusal, start_answer, dofs_answer};
-ghost use Rattle.arm_views.specs.Links.{spring_refusal, spring_answer, mul_refusal, mul_answer};
+ghost use Rattle.arm_views.specs.Links.{spring_refusal, spring_as, spring_answer, mul_refusal, axes_as, mul_answer};
 ghost use Rattle.arm_views.specs.Branch.{branch_needed, branch_refusal, arm_branch};
-ghost use Rattle.arm_views.specs.View.{seen, view_refusal, view_answer};
+ghost use Rattle.arm_views.specs.View.{seen_as, row_of, view_refusal, view_answer};
 
-use arm::{Arm, arm_refusal, dof_count, live_links, mask_at, parents_of, start_of};
+use arm::Arm;
 use floats::is_finite_part;
 use masks::{dofs, is_axis};
 use multibody_joint::Spring;
-use refusal::{Counted, answer_count, lowest, unless};
+use refusal::{Refusal, lowest, unless};
 
 // ---- Starts
 
-fn start_refusal(arm: Arm, link: u32) -> u8
-    ensures { result ≡ start_refusal arm link }
+#[tactic(auto, unfolding(crate::specs::Numbers::start_refusal))]
+fn start_refusal(arm: &Arm, link: u32) -> Result<(), Refusal>
+    ensures { code result ≡ start_refusal arm.now link }
 {
-    let refusals = [
-        unless((link as usize) < arm.link_count, 4),
-        arm_refusal(arm),
-    ];
-    lowest(&refusals)
+    lowest(&[
+        unless((link as usize) < arm.link_count, Refusal::Link),
+        arm.refusal(),
+    ])
 }
 
 // The start of a link.
-pub fn link_start(arm: Arm, link: u32) -> Counted
-    ensures { result ≡ start_answer arm link }
+#[tactic(auto, using(refusal::proofs::Answers::counted_passed, refusal::proofs::Answers::counted_exit), unfolding(crate::specs::Numbers::start_answer))]
+pub fn link_start(arm: &Arm, link: u32) -> Result<usize, Refusal>
+    ensures { counted result ≡ start_answer arm.now link }
 {
-    answer_count(start_refusal(arm, link), start_of(arm, link as usize))
+    start_refusal(arm, link)?;
+    Ok(arm.start_of(link as usize))
 }
 
 // The DoF count of an arm.
-pub fn arm_dofs(arm: Arm) -> Counted
-    ensures { result ≡ dofs_answer arm }
+#[tactic(auto, using(refusal::proofs::Answers::counted_passed, refusal::proofs::Answers::counted_exit), unfolding(crate::specs::Numbers::dofs_answer))]
+pub fn arm_dofs(arm: &Arm) -> Result<usize, Refusal>
+    ensures { counted result ≡ dofs_answer arm.now }
 {
-    answer_count(arm_refusal(arm), dof_count(arm))
+    arm.refusal()?;
+    Ok(arm.dof_count())
 }
 
 // ---- Springs
 
-fn spring_refusal(arm: Arm, link: u32, axis: u32) -> u8
-    ensures { result ≡ spring_refusal arm link axis }
+#[tactic(auto, unfolding(crate::specs::Links::spring_refusal))]
+fn spring_refusal(arm: &Arm, link: u32, axis: u32) -> Result<(), Refusal>
+    ensures { code result ≡ spring_refusal arm.now link axis }
 {
-    let refusals = [
-        unless((link as usize) < arm.link_count, 4),
-        unless(is_axis(axis), 5),
-        arm_refusal(arm),
-    ];
-    lowest(&refusals)
+    lowest(&[
+        unless((link as usize) < arm.link_count, Refusal::Link),
+        unless(is_axis(axis), Refusal::Mask),
+        arm.refusal(),
+    ])
 }
 
+// The spring of an axis of a link's joint, locked or not.
+pub fn spring(arm: &Arm, link: u32, axis: u32) -> Result<Spring, Refusal>
+    ensures { spring_as result ≡ spring_answer arm.now link axis }
+{
+    spring_refusal(arm, link, axis)?;
+    Ok(multibody_joint::spring_of(arm.links[link as usize].joint, axis))
+}
+
+// What C is told of a spring: a refusal and a spring of zeros, or 0 and the spring.
 #[repr(C)]
 #[derive(Clone, Copy)]
 pub struct SpringAnswer {
@@ -61,43 +75,48 @@ pub struct SpringAnswer {
     pub spring: Spring,
 }
 
-// The spring of an axis of a link's joint, locked or not.
-pub fn spring(arm: Arm, link: u32, axis: u32) -> SpringAnswer
-    ensures { result ≡ spring_answer arm link axis }
-{
-    let refusal = spring_refusal(arm, link, axis);
-    if refusal != 0 {
-        return SpringAnswer {
-            refusal,
-            spring: Spring {
-                stiffness: 0.0,
-                rest: 0.0,
+impl From<Result<Spring, Refusal>> for SpringAnswer {
+    ghost from_gives = { λ r c. c ≡ spring_as r };
+
+    fn from(answer: Result<Spring, Refusal>) -> SpringAnswer {
+        match answer {
+            Ok(spring) => SpringAnswer { refusal: 0, spring },
+            Err(refusal) => SpringAnswer {
+                refusal: refusal.number(),
+                spring: Spring {
+                    stiffness: 0.0,
+                    rest: 0.0,
+                },
             },
-        };
-    }
-    let at = link as usize;
-    let l = arm.links[at];
-    SpringAnswer {
-        refusal: 0,
-        spring: multibody_joint::spring_of(l.joint, axis),
+        }
     }
 }
 
 // ---- Accelerations on their axes
 
-fn mul_refusal(arm: Arm, link: u32, accelerations: &[f32]) -> u8
-    ensures { result ≡ mul_refusal arm link accelerations.now }
+#[tactic(auto, unfolding(crate::specs::Links::mul_refusal))]
+fn mul_refusal(arm: &Arm, link: u32, accelerations: &[f32]) -> Result<(), Refusal>
+    ensures { code result ≡ mul_refusal arm.now link accelerations.now }
 {
-    let n = dofs(mask_at(arm, link as usize));
-    let refusals = [
-        unless(n <= accelerations.len(), 1),
-        unless((link as usize) < arm.link_count, 4),
-        unless(is_finite_part(accelerations, 0, n), 7),
-        arm_refusal(arm),
-    ];
-    lowest(&refusals)
+    let n = dofs(arm.mask_at(link as usize));
+    lowest(&[
+        unless(n <= accelerations.len(), Refusal::Memory),
+        unless((link as usize) < arm.link_count, Refusal::Link),
+        unless(is_finite_part(accelerations, 0, n), Refusal::NotFinite),
+        arm.refusal(),
+    ])
 }
 
+// The accelerations of a link's joint, which begin with the link's own, put on their axes.
+pub fn jacobian_mul_coordinates(arm: &Arm, link: u32, accelerations: &[f32]) -> Result<[f32; 3], Refusal>
+    ensures { axes_as result ≡ mul_answer arm.now link accelerations.now }
+{
+    mul_refusal(arm, link, accelerations)?;
+    let joint = arm.links[link as usize].joint;
+    Ok(multibody_joint::jacobian_mul_coordinates(joint, accelerations))
+}
+
+// What C is told of an entry for each axis: a refusal and zeros, or 0 and the entries.
 #[repr(C)]
 #[derive(Clone, Copy)]
 pub struct AxesAnswer {
@@ -105,102 +124,86 @@ pub struct AxesAnswer {
     pub axes: [f32; 3],
 }
 
-// The accelerations of a link's joint, which begin with the link's own, put on their axes.
-pub fn jacobian_mul_coordinates(arm: Arm, link: u32, accelerations: &[f32]) -> AxesAnswer
-    ensures { result ≡ mul_answer arm link accelerations.now }
-{
-    let refusal = mul_refusal(arm, link, accelerations);
-    if refusal != 0 {
-        return AxesAnswer {
-            refusal,
-            axes: [0.0; 3],
-        };
-    }
-    let at = link as usize;
-    let l = arm.links[at];
-    AxesAnswer {
-        refusal: 0,
-        axes: multibody_joint::jacobian_mul_coordinates(l.joint, accelerations),
+impl From<Result<[f32; 3], Refusal>> for AxesAnswer {
+    ghost from_gives = { λ r c. c ≡ axes_as r };
+
+    fn from(answer: Result<[f32; 3], Refusal>) -> AxesAnswer {
+        match answer {
+            Ok(axes) => AxesAnswer { refusal: 0, axes },
+            Err(refusal) => AxesAnswer {
+                refusal: refusal.number(),
+                axes: [0.0; 3],
+            },
+        }
     }
 }
 
 // ---- The branch of a link
 
 // How many places a branch needs.
-fn branch_needed(arm: Arm, link: usize) -> usize
-    ensures { result ≡ branch_needed arm link }
+fn branch_needed(arm: &Arm, link: usize) -> usize
+    ensures { result ≡ branch_needed arm.now link }
 {
-    let n = live_links(arm.link_count);
-    let parents = parents_of(arm);
-    topology::branch_length(&parents[0..n], link)
+    let parents = arm.parents();
+    topology::branch_length(&parents[..arm.live_links().len()], link)
 }
 
-fn branch_refusal(arm: Arm, link: u32, room: usize) -> u8
-    ensures { result ≡ branch_refusal arm link room }
+#[tactic(auto, unfolding(crate::specs::Branch::branch_refusal))]
+fn branch_refusal(arm: &Arm, link: u32, room: usize) -> Result<(), Refusal>
+    ensures { code result ≡ branch_refusal arm.now link room }
 {
-    let refusals = [
-        unless(branch_needed(arm, link as usize) <= room, 1),
-        unless((link as usize) < arm.link_count, 4),
-        arm_refusal(arm),
-    ];
-    lowest(&refusals)
+    lowest(&[
+        unless(branch_needed(arm, link as usize) <= room, Refusal::Memory),
+        unless((link as usize) < arm.link_count, Refusal::Link),
+        arm.refusal(),
+    ])
 }
 
 // The links from the root to a link, a byte each, written into lent memory, with their count.
-pub fn kinematic_branch(arm: Arm, link: u32, to: &mut [u8]) -> Counted
-    ensures { out result to.new ≡ arm_branch arm link to.old }
+pub fn kinematic_branch(arm: &Arm, link: u32, to: &mut [u8]) -> Result<usize, Refusal>
+    ensures { out (counted result) to.new ≡ arm_branch arm.now link to.old }
 {
-    let refusal = branch_refusal(arm, link, to.len());
-    if refusal != 0 {
-        return Counted { refusal, count: 0 };
-    }
-    let n = live_links(arm.link_count);
-    let parents = parents_of(arm);
-    topology::kinematic_branch(&parents[0..n], link as usize, to)
+    branch_refusal(arm, link, to.len())?;
+    let parents = arm.parents();
+    topology::kinematic_branch(&parents[..arm.live_links().len()], link as usize, to)
 }
 
 // ---- A link's own part of a row
 
 // Which of the two lent rows is asked for.
-#[derive(Clone, Copy)]
+#[derive(Clone, Copy, Debug, PartialEq, Eq)]
 pub enum Role {
     Velocities,
     Accelerations,
 }
 
-fn view_refusal(arm: Arm, link: u32, velocities: usize, accelerations: usize) -> u8
-    ensures { result ≡ view_refusal arm link velocities accelerations }
+#[tactic(auto, unfolding(crate::specs::View::view_refusal))]
+fn view_refusal(arm: &Arm, link: u32, velocities: usize, accelerations: usize) -> Result<(), Refusal>
+    ensures { code result ≡ view_refusal arm.now link velocities accelerations }
 {
-    let n = dof_count(arm);
-    let refusals = [
-        unless((n <= velocities) & (n <= accelerations), 1),
-        unless((link as usize) < arm.link_count, 4),
-        arm_refusal(arm),
-    ];
-    lowest(&refusals)
+    let n = arm.dof_count();
+    lowest(&[
+        unless((n <= velocities) & (n <= accelerations), Refusal::Memory),
+        unless((link as usize) < arm.link_count, Refusal::Link),
+        arm.refusal(),
+    ])
 }
 
-// A link's own part of the velocities or of the accelerations. The number goes out through `refusal`; refused, the part is empty. No lent float
-// is read.
+// A link's own part of the velocities or of the accelerations. No lent float is read.
 pub fn row_view<'a>(
-    arm: Arm,
+    arm: &Arm,
     role: Role,
     link: u32,
     velocities: &'a [f32],
     accelerations: &'a [f32],
-    refusal: &mut u8,
-) -> &'a [f32]
-    ensures { seen result.now refusal.new ≡ view_answer arm role link velocities.now accelerations.now }
+) -> Result<&'a [f32], Refusal>
+    ensures { seen_as result ≡ view_answer arm.now role link velocities.now accelerations.now }
 {
-    let number = view_refusal(arm, link, velocities.len(), accelerations.len());
-    *refusal = number;
-    if number != 0 {
-        return &velocities[0..0];
-    }
-    let start = start_of(arm, link as usize);
-    let end = start + dofs(mask_at(arm, link as usize));
-    match role {
+    view_refusal(arm, link, velocities.len(), accelerations.len())?;
+    let start = arm.start_of(link as usize);
+    let end = start + dofs(arm.mask_at(link as usize));
+    Ok(match role {
         Role::Velocities => &velocities[start..end],
         Role::Accelerations => &accelerations[start..end],
-    }
+    })
 }
