@@ -3,6 +3,7 @@ pub mod Every
 pub mod Filled
 pub mod Gathered
 pub mod Lists
+pub mod Mapped
 pub mod Modified
 pub mod Numbers
 pub mod Parts
