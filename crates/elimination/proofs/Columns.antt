@@ -1,16 +1,15 @@
 -- The columns, one more: a column is tested by the test of the last, since what isn't finite stays so.
 use mathlib.Core.Path.{◌≡◌, refl, sym, ap, ◌∙◌}
-use mathlib.Core.Bool.{Bool, true, false, cond, ◌&&◌, false≢true}
+use mathlib.Core.Bool.{Bool, true, false, cond, false≢true}
 use mathlib.Core.List.{List, [], ◌∷◌, ◌++◌}
 use Prim.Native.Nat.{ℕ, zero, suc, ◌+◌, ◌-◌, ◌*◌, ◌<◌, ◌≤◌}
 use native.Mathlib.Numerals.{add-one}
 use native.Mathlib.Omega.{arith}
-use lib.ListN.{length, take, set, replicate}
+use lib.ListN.{length, take, set}
 use lib.Seq.{take-suc-set}
-use lib.Ieee.{Float, binary32, of_bits}
-use Rattle.lists.proofs.Bools.{both_hold}
+use lib.Ieee.{Float}
 use Rattle.floats.specs.Floats.{all_finite}
-use Rattle.elimination.specs.Elimination.{entry, pivot_row, is_zero, column, Factors, factors, trouble, columns, factored}
+use Rattle.elimination.specs.Elimination.{entry, pivot_row, is_zero, column, Factors, factors, trouble, columns}
 use Rattle.elimination.proofs.Sticky.{finite_column}
 
 -- what the test of the rows makes of f
@@ -57,25 +56,3 @@ module _ (n k : ℕ) (a : List Float) (s : List ℕ) where
 -- one more row swapped in
 pub swaps_more : (k p : ℕ) (s : List ℕ) → k < length s → take k s ++ (p ∷ []) ≡ take (k + 1) (set s k p)
 swaps_more k p s h = sym (ap (λ (j : ℕ). take j (set s k p)) (add-one k) ∙ take-suc-set s k p h)
-
-left_false : (a b : Bool) → (a && b) ≡ false → b ≡ true → a ≡ false
-left_false false b h t = refl
-left_false true b h t = sym t ∙ h
-
--- the factors, from what the elimination left: rows a, swaps s, whether no pivot was zero, and whether the rows are finite
-module _ (n : ℕ) (a₀ a : List Float) (s : List ℕ) (whole f : Bool)
-    (e : factored n a₀ ≡ tested n a (cond whole (factors 0 a s) (trouble n 11))) (ef : f ≡ all_finite a) where
-  found : (b c : Bool) → whole ≡ b → f ≡ c → factored n a₀ ≡ cond c (cond b (factors 0 a s) (trouble n 11)) (trouble n 12)
-  found b c eb ec = e ∙ rw (← ef, ec, eb)
-
-  pub factored_good : (whole && f) ≡ true → factors 0 a s ≡ factored n a₀
-  factored_good h = sym (found true true (both_hold whole f h).0 (both_hold whole f h).1)
-
-  module _ (h : (whole && f) ≡ false) (z : List Float) (y : List ℕ) (la : length a ≡ n * n) (ls : length s ≡ n)
-      (ez : z ≡ replicate (length a) (of_bits binary32 0)) (ey : y ≡ replicate (length s) 0) where
-    cleared : (k : ℕ) → factors k z y ≡ trouble n k
-    cleared k = rw (ez, ey, la, ls)
-
-    pub factored_bad : (b : Bool) → f ≡ b → factors (cond b 11 12) z y ≡ factored n a₀
-    factored_bad true t = cleared 11 ∙ sym (found false true (left_false whole f h t) t)
-    factored_bad false t = cleared 12 ∙ sym (found whole false refl t)

@@ -6,7 +6,7 @@ use Rattle.refusal.specs.Refusal.{lowest, unless_of}
 use Rattle.elimination.specs.Elimination.{Factors, factors, factored}
 
 -- 1: a lent slice is too short; 2: n above the limit
-abbrev pub room_refusal : ℕ → Bool → ℕ
+unfoldable pub room_refusal : ℕ → Bool → ℕ
 room_refusal n room = lowest (unless_of room 1 ∷ unless_of (leb n dof_limit) 2 ∷ [])
 
 abbrev pub over_front : ℕ → Factors → List Float → List ℕ → Factors

@@ -20,6 +20,7 @@ fn absolute_value(x: f32) -> f32
 }
 
 // The first row of greatest absolute value in column k, at or below the diagonal.
+#[tactic(auto, using(crate::proofs::Rows::inside, crate::proofs::Rows::at_inside))]
 fn pivot_row(n: usize, k: usize, rows: &[f32]) -> usize
     requires { (k < n) × (length rows.now ≡ n * n) }
     ensures { (result ≡ pivot_row n k rows.now) × (k ≤ result) × (result < n) }
@@ -41,8 +42,8 @@ fn take_away(row: &mut [f32], pivot: &[f32], factor: f32)
     requires { length row.old ≡ length pivot.now }
     ensures { row.new ≡ zip_to (less factor) row.old pivot.now }
 {
-    for (x, y) in row.iter_mut().zip(pivot) {
-        *x -= factor * y;
+    for (j, x) in row.iter_mut().enumerate() {
+        *x -= factor * pivot[j];
     }
 }
 
@@ -57,16 +58,19 @@ fn reduce_row(k: usize, row: &mut [f32], pivot: &[f32])
 }
 
 // So all rows below row k.
+#[tactic(auto, using(crate::proofs::Rows::inside))]
 fn reduce_below(n: usize, k: usize, rows: &mut [f32], pivot: &[f32])
     requires { (k < n) × (length rows.old ≡ n * n) × (length pivot.now ≡ n) }
     ensures { rows.new ≡ reduced n k pivot.now (n - (k + 1)) (k + 1) rows.old }
 {
     for i in k + 1..n {
-        reduce_row(k, &mut rows[i * n..i * n + n], pivot);
+        let at = i * n;
+        reduce_row(k, &mut rows[at..at + n], pivot);
     }
 }
 
 // Rows k and p swapped, where `pivot` is row p already.
+#[tactic(auto, using(crate::proofs::Rows::inside))]
 fn swap_rows(n: usize, k: usize, p: usize, rows: &mut [f32], pivot: &[f32])
     requires { (k ≤ p) × (p < n) × (length rows.old ≡ n * n) × (length pivot.now ≡ n) × (pivot.now ≡ row n p rows.old) }
     ensures { rows.new ≡ swapped n k p rows.old }
@@ -78,6 +82,7 @@ fn swap_rows(n: usize, k: usize, p: usize, rows: &mut [f32], pivot: &[f32])
 }
 
 // Column k, with its pivot in row p.
+#[tactic(auto, using(crate::proofs::Rows::inside))]
 fn eliminate_column(n: usize, k: usize, p: usize, rows: &mut [f32], pivot: &mut [f32])
     requires { (k ≤ p) × (p < n) × (length rows.old ≡ n * n) × (length pivot.old ≡ n) }
     ensures { rows.new ≡ column n k p rows.old }
@@ -88,13 +93,21 @@ fn eliminate_column(n: usize, k: usize, p: usize, rows: &mut [f32], pivot: &mut 
 }
 
 // The columns one after the other, up to a pivot that is zero. A value that isn't finite stays so, in what the rows become.
-fn eliminate(n: usize, rows: &mut [f32], swaps: &mut [usize], pivot: &mut [f32]) -> Result<(), Refusal>
+#[tactic(auto, using(crate::proofs::Rows::inside, crate::proofs::Rows::at_inside))]
+fn eliminate(
+    n: usize,
+    rows: &mut [f32],
+    swaps: &mut [usize],
+    pivot: &mut [f32],
+) -> Result<(), Refusal>
     requires { (length rows.old ≡ n * n) × (length swaps.old ≡ n) × (length pivot.old ≡ n) }
     ensures { factored n rows.old ≡ cond (all_finite rows.new) (cond (is_ok result) (factors 0 rows.new swaps.new) (trouble n (code result))) (trouble n 12) }
 {
     for k in 0..n {
         let p = pivot_row(n, k, rows);
-        unless(rows[p * n + k] != 0.0, Refusal::Singular)?;
+        if rows[p * n + k] == 0.0 {
+            return Err(Refusal::Singular);
+        }
         eliminate_column(n, k, p, rows, pivot);
         swaps[k] = p;
     }
@@ -108,7 +121,11 @@ fn factor_whole(n: usize, rows: &mut [f32], swaps: &mut [usize]) -> Result<(), R
 {
     let mut pivot = [0.0; DOFS];
     let whole = eliminate(n, rows, swaps, &mut pivot[..n]);
-    let answer = if all_finite(rows) { whole } else { Err(Refusal::Overflow) };
+    let answer = if all_finite(rows) {
+        whole
+    } else {
+        Err(Refusal::Overflow)
+    };
     if answer.is_err() {
         rows.fill(0.0);
         swaps.fill(0);
@@ -124,6 +141,7 @@ pub fn square_fits(n: usize, len: usize) -> bool
 }
 
 // Is what is lent too short, or n above the limit?
+#[tactic(auto, unfolding(crate::specs::Inner::room_refusal))]
 pub fn room_refusal(n: usize, room: bool) -> Result<(), Refusal>
     ensures { code result ≡ room_refusal n room }
 {
@@ -134,6 +152,7 @@ pub fn room_refusal(n: usize, room: bool) -> Result<(), Refusal>
 }
 
 // The first n by n floats of `rows` become their factors, and `swaps` tells the row that each column swapped in.
+#[tactic(auto, using(refusal::proofs::Answers::passed, crate::proofs::Room::room_fits))]
 pub fn factor(n: usize, rows: &mut [f32], swaps: &mut [usize]) -> Result<(), Refusal>
     ensures { factors (code result) rows.new swaps.new ≡ factored_in n rows.old swaps.old }
 {
