@@ -1,7 +1,7 @@
 -- Loops that fill lent memory: the row so far is laid over its front. Assumes nothing.
 use Prim.Native.Nat.{ℕ, zero, suc, ◌+◌, ◌<◌}
 use mathlib.Core.Path.{◌≡◌, refl, sym, ap, ◌∙◌}
-use mathlib.Core.Bool.{Bool, true, false, cond}
+use mathlib.Core.Bool.{true, false, cond}
 use mathlib.Core.List.{List, [], ◌∷◌, ◌++◌, append_assoc, append-nil}
 use native.Mathlib.Omega.{arith}
 use native.Mathlib.Numerals.{add-one}
@@ -9,9 +9,9 @@ use lib.ListN.{length, set, length-append, length-set}
 use lib.Seq.{drop-cons, set_at}
 use lib.Ieee.{Float, nan}
 use Rattle.lists.specs.Lists.{laid}
-use Rattle.masks.specs.Masks.{one, is_free, dofs_below, damping_of, damping_below}
+use Rattle.masks.specs.Masks.{is_free, dofs_below, damping_of, damping_below}
 use Rattle.masks.specs.Starts.{start_of, starts_to}
-use Rattle.masks.proofs.Laws.{below_suc}
+use Rattle.masks.proofs.Laws.{below_suc, one_entry}
 use Rattle.masks.proofs.Totals.{length-starts_to}
 
 -- at first nothing is laid
@@ -42,11 +42,7 @@ damping_suc m a = refl
 pub length-damping : (m a : ℕ) → length (damping_below m a) ≡ dofs_below m a
 unfolding damping_below dofs_below
 length-damping m zero = refl
-length-damping m (suc a) = simp length-append (omega (arith, length-damping m a, entries (is_free m a)))
-  where
-    entries : (b : Bool) → length (cond b (damping_of a ∷ []) []) ≡ one b
-    entries true = refl
-    entries false = refl
+length-damping m (suc a) = simp length-append (omega (arith, length-damping m a, one_entry (damping_of a) (is_free m a)))
 
 -- the axes below a are done: the next entry stands at their DoF count
 pub record Damped (m a at : ℕ) (old l : List Float) : Type 0 where

@@ -1,11 +1,10 @@
 -- How many axes are free, for callers: at most three in all, and below a free axis fewer than in all. Assumes nothing.
-use Prim.Native.Nat.{ℕ, zero, suc, ◌+◌, ◌≤◌, ◌<◌}
-use mathlib.Core.Path.{◌≡◌, refl, ap, sym}
-use mathlib.Core.Bool.{Bool, true, false, not}
-use native.Mathlib.Omega.{arith}
+use native.Mathlib.Decide.{dec_lt}
 use borrow.Author.Tests.{lt-leb}
-use Rattle.std.proofs.Common.{Result, Ok, Err}
 use Rattle.std.specs.Int.{from_bool}
+use Rattle.std.specs.List.{filter, range_with_len}
+use Rattle.std.proofs.Common.{ℕ, zero, suc, min, ◌+◌, ◌≤◌, ◌<◌, ◌≡◌, ◌∙◌, refl, ap, sym, Bool, true, false, not, cond, List, [], ◌∷◌, map, length, length-append, map-id, add-one, arith, Result, Ok, Err}
+use Rattle.std.proofs.lemmas.List.FromFn.{filter_of_map_range_with_len_more}
 use Rattle.refusal.specs.declared.Refusal.{Refusal}
 use Rattle.masks.specs.declared.Axis.{Axis}
 use Rattle.masks.specs.declared.Axis.TheVariants.{X, Y, Angle}
@@ -23,6 +22,11 @@ from_one false = refl
 pub from_le : (b : Bool) → from_bool b ≤ 1
 from_le true = omega arith
 from_le false = omega arith
+
+-- a list of one, if it holds
+pub one_entry : {A : Type 0} (x : A) (b : Bool) → length (cond b (x ∷ []) []) ≡ one b
+one_entry x true = refl
+one_entry x false = refl
 
 -- ---- an axis, and the number that names it
 
@@ -87,23 +91,29 @@ below-le m (suc (suc (suc k))) = omega (arith, below_past m k, ap one (no_axis m
 pub below_free : (m a : ℕ) → is_free m a ≡ true → dofs_below m a < dofs_of m
 below_free m a h = omega (arith, below-le m a, ap one h)
 
--- ---- axis by axis, as a match takes them
+-- ---- as a count of those in a range
 
-pub below-first : (m a : ℕ) → a ≡ 0 → 0 ≡ dofs_below m a
+free_list : (m n : ℕ) → length (filter (is_free m) (map (λ (k : ℕ). k) (range_with_len 0 n))) ≡ dofs_below m n
 unfolding dofs_below
-below-first m a h = rw h
+free_list m zero = refl
+free_list m (suc n) =
+    let e = rw (add-one n) at (filter_of_map_range_with_len_more (is_free m) (λ (k : ℕ). k) 0 n n (omega arith)) in
+    ap length e ∙ simp length-append (omega (arith, free_list m n, one_entry n (is_free m n)))
 
-pub below-second : (m a : ℕ) {x : ℕ} → a ≡ 1 → x ≡ one (is_free m 0) → x ≡ dofs_below m a
-unfolding dofs_below
-below-second m a h p = rw h (omega arith)
+-- past the three no more are counted
+below_three : (m a k : ℕ) → k ≡ min a 3 → dofs_below m k ≡ dofs_below m a
+unfolding dofs_of
+below_three m a k e = elim (dec_lt a 3) [
+  | yes l ↦ ap (dofs_below m) (omega arith)
+  | no l ↦ let p : k ≡ 3 = omega arith in ap (dofs_below m) p ∙ past a (omega arith)
+]
+  where
+    past : (a : ℕ) → 3 ≤ a → dofs_below m 3 ≡ dofs_below m a
+    past zero h = absurd (omega arith)
+    past (suc zero) h = absurd (omega arith)
+    past (suc (suc zero)) h = absurd (omega arith)
+    past (suc (suc (suc k))) h = sym (below_past m k)
 
-pub below-third : (m a : ℕ) {x y : ℕ} → a ≡ 2 → x ≡ one (is_free m 0) → y ≡ one (is_free m 1) → x + y ≡ dofs_below m a
-unfolding dofs_below
-below-third m a h p q = rw h (omega arith)
-
-pub below_any : (m a : ℕ) {x y angle : ℕ} → 3 ≤ a → x ≡ one (is_free m 0) → y ≡ one (is_free m 1) → angle ≡ one (is_free m 2) → x + y + angle ≡ dofs_below m a
-unfolding dofs_below dofs_of
-below_any m zero h p q r = absurd (omega arith)
-below_any m (suc zero) h p q r = absurd (omega arith)
-below_any m (suc (suc zero)) h p q r = absurd (omega arith)
-below_any m (suc (suc (suc k))) h p q r = omega (arith, below_past m k)
+-- those below an axis, of the three
+pub below_all : (m a n : ℕ) → n ≡ length (filter (is_free m) (range_with_len 0 (min a 3))) → n ≡ dofs_below m a
+below_all m a n e = e ∙ ap (λ (xs : List ℕ). length (filter (is_free m) xs)) (sym (map-id (range_with_len 0 (min a 3)))) ∙ free_list m (min a 3) ∙ below_three m a (min a 3) refl

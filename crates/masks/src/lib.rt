@@ -81,15 +81,7 @@ fn free(mask: u32, axis: u32) -> bool
 fn free_below(mask: u32, axis: u32) -> usize
     ensures { result ≡ dofs_below mask axis }
 {
-    let x = usize::from(free(mask, 0));
-    let y = usize::from(free(mask, 1));
-    let angle = usize::from(free(mask, 2));
-    match axis {
-        0 => 0,
-        1 => x,
-        2 => x + y,
-        _ => x + y + angle,
-    }
+    (0..axis.min(3)).filter(|below| free(mask, *below)).count()
 }
 
 // Is it one of the three axes, and free?

@@ -1,21 +1,13 @@
--- `free_below`: each arm of the match is the law for its axis. Assumes nothing.
-use Rattle.std.proofs.Common.{arith}
-use Rattle.masks.proofs.Laws.{from_one, below_any, below-first, below-second, below-third}
+-- `free_below`: the chain gives the free ones of the axes below, which are counted. Assumes nothing.
+use Rattle.std.proofs.Common.{arith, rules, tests}
+use Rattle.std.proofs.lemmas.Iterator.{YieldsList-from_range}
+use Rattle.std.proofs.lemmas.Iterator.Consumers.{count_from_yields_List, YieldsList-from_filter}
+use Rattle.masks.specs.Masks.{is_free}
+use Rattle.masks.proofs.Laws.{below_all}
 use Rattle.masks.proofs.free_below.Goals as goal
 
-pub returns-in-0 : goal.returns-in-0
-returns-in-0 c = below-first _ _ c.in-0.is
-
-pub returns-in-1 : goal.returns-in-1
-returns-in-1 c = below-second _ _ c.in-1.is (rw (c.from-x.ensures, from_one, c.free.ensures))
-
-pub returns-in-2 : goal.returns-in-2
-returns-in-2 c =
-    below-third _ _ c.in-2.is (rw (c.from-x.ensures, from_one, c.free.ensures)) (rw (c.from-y.ensures, from_one, c.free-2.ensures))
-
-pub returns-in_default : goal.returns-in_default
-returns-in_default c =
-    below_any _ _ (omega arith)
-    (rw (c.from-x.ensures, from_one, c.free.ensures))
-    (rw (c.from-y.ensures, from_one, c.free-2.ensures))
-    (rw (c.from-angle.ensures, from_one, c.free-3.ensures))
+pub returns : goal.returns
+returns c =
+    below_all c.args.mask c.args.axis _
+    (count_from_yields_List c.filter.result _ c.count.ensures.ran
+    (YieldsList-from_filter _ (is_free c.args.mask) (YieldsList-from_range 0 c.min.result _ c.filter.ensures.source (omega arith)) c.filter.ensures.closure (λ x b q k. search (rules, tests))))
