@@ -73,10 +73,8 @@ const CONSTRAINT_ROW: u32 = 6 * WORD;
 
 const SUMS: u32 = 3 * WORD;
 
-const STRUCTS: usize = 21;
-
 // In the order of the C header.
-const SIZES: [u32; STRUCTS] = [
+const SIZES: [u32; 21] = [
     ROTATION,
     POINT,
     POSE,
@@ -109,10 +107,10 @@ pub extern "C" fn giellavor_version() -> u32
 }
 
 // The size in bytes of a struct, by its place in the C header, from 0; past the last it is 0.
+#[tactic(auto, unfolding(crate::specs::Sizes::size_of))]
 #[unsafe(no_mangle)]
 pub extern "C" fn giellavor_size(place: u32) -> u32
     ensures { result ≡ size_of place }
 {
-    let at = place as usize;
-    if at < STRUCTS { SIZES[at] } else { 0 }
+    SIZES.get(place as usize).copied().unwrap_or(0)
 }
