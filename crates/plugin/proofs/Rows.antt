@@ -38,32 +38,37 @@ laid_run p v old l new at e n q =
     sym (drop-drop (length v) at l) ∙ ap (drop (length v)) behind ∙ drop-drop (length v) at old in
     q ∙ rw (front, rest, length-append p v, n, append_assoc)
 
--- the first i floats are written
-pub record Written (row : List Float) (old : List ℕ) (i : ℕ) (l : List ℕ) : Type 0 where
+-- the first i floats are written, and the position is behind them
+pub record Written (row : List Float) (old : List ℕ) (i at : ℕ) (l : List ℕ) : Type 0 where
   pub same_length : length l ≡ length old
+  pub behind : at ≡ 4 * i
   pub front : l ≡ laid (bytes_of (take i row)) old
 
-pub written_none : (row : List Float) (old : List ℕ) → Written row old 0 old
+pub written_none : (row : List Float) (old : List ℕ) → Written row old 0 0 old
 unfolding bytes_of
-written_none row old = record { same_length = refl; front = refl }
+written_none row old = record { same_length = refl; behind = refl; front = refl }
 
-module _ (row : List Float) (old : List ℕ) (i : ℕ) (l : List ℕ) (w : Written row old i l) (h : i < length row) where
+module _ (row : List Float) (old : List ℕ) (i at : ℕ) (l : List ℕ) (w : Written row old i at l) (h : i < length row) where
   here : length (bytes_of (take i row)) ≡ 4 * i
   here = length_bytes (take i row) ∙ ap (λ (n : ℕ). 4 * n) (length-take-le i row (omega arith))
 
   one_more : bytes_of (take (i + 1) row) ≡ bytes_of (take i row) ++ little_endian 4 (to_bits binary32 (get_or row i nan))
   one_more = ap (λ (k : ℕ). bytes_of (take k row)) (add-one i) ∙ ap bytes_of (take-suc row i nan h) ∙ bytes_snoc (take i row) (get_or row i nan)
 
-  pub written_more : (b next : ℕ) (new : List ℕ) → b ≡ to_bits binary32 (get_or row i nan) → length new ≡ length l → 4 * length row ≤ length l
-      → writing next new ≡ bytes_written (writing (4 * i) l) (little_endian 4 b) → Written row old (i + 1) new
+  pub written_more : (b next : ℕ) (new : List ℕ) → b ≡ to_bits binary32 (get_or row i nan) → length new ≡ length l → 4 * length row ≤ length old
+      → writing next new ≡ bytes_written (writing at l) (little_endian 4 b) → Written row old (i + 1) next new
   written_more b next new e s fit q =
       let wide : length (little_endian 4 b) ≡ 4 = as_wide 4 b in
-      let there : new ≡ take (4 * i) l ++ little_endian 4 b ++ drop (4 * i + length (little_endian 4 b)) l =
-      ap (λ (w : Writing). w.buffer) (q ∙ room l (4 * i) (little_endian 4 b) (omega arith)) in record {
+      let same = w.same_length in
+      let behind = w.behind in
+      let there : writing next new ≡ writing (4 * i + length (little_endian 4 b)) (take (4 * i) l ++ little_endian 4 b ++ drop (4 * i + length (little_endian 4 b)) l) =
+      q ∙ ap (λ (k : ℕ). bytes_written (writing k l) (little_endian 4 b)) behind ∙ room l (4 * i) (little_endian 4 b) (omega arith) in
+      let position : next ≡ 4 * i + length (little_endian 4 b) = ap (λ (w : Writing). w.next) there in record {
         same_length = s ∙ w.same_length;
-        front = laid_run (bytes_of (take i row)) (little_endian 4 b) old l new (4 * i) w.front here there
+        behind = omega arith;
+        front = laid_run (bytes_of (take i row)) (little_endian 4 b) old l new (4 * i) w.front here (ap (λ (w : Writing). w.buffer) there)
             ∙ ap (λ (r : List ℕ). laid r old) (ap (λ (k : ℕ). bytes_of (take i row) ++ little_endian 4 k) e ∙ sym one_more);
       }
 
-pub written_all : (row : List Float) (old : List ℕ) (i : ℕ) (l : List ℕ) → Written row old i l → length row ≤ i → l ≡ laid (bytes_of row) old
-written_all row old i l w h = w.front ∙ ap (λ (r : List Float). laid (bytes_of r) old) (take_all i row h)
+pub written_all : (row : List Float) (old : List ℕ) (i at : ℕ) (l : List ℕ) → Written row old i at l → length row ≤ i → l ≡ laid (bytes_of row) old
+written_all row old i at l w h = w.front ∙ ap (λ (r : List Float). laid (bytes_of r) old) (take_all i row h)

@@ -1,11 +1,6 @@
--- `write_row`: the floats passed are written. Assumes nothing.
+-- `write_row`: the floats passed are written, and the position is behind them. Assumes nothing.
 use Rattle.plugin.proofs.Rows.{Written}
-use lib.ListN.{length}
-use Prim.Native.Nat.{◌-◌, ◌≤◌}
 use Rattle.plugin.proofs.write_row.Given as goal
 
-abbrev pub invariant-loop-i : goal.invariant-loop-i
-invariant-loop-i l = (l.i ≤ length l.row) × Written l.row l.initial.bytes l.i l.bytes
-
-abbrev pub decreases-loop-i : goal.decreases-loop-i
-decreases-loop-i l = length l.row - l.i
+abbrev pub invariant-loop-x : goal.invariant-loop-x
+invariant-loop-x l = Written l.row l.initial.bytes l.x-index l.at l.bytes
