@@ -1,31 +1,36 @@
 -- The two passes' ends: too short, not finite, or done. Assumes nothing.
-use mathlib.Core.Path.{◌≡◌, sym, ap, ◌∙◌}
+use mathlib.Core.Path.{◌≡◌, refl, sym, ap, ◌∙◌}
 use Prim.Native.Nat.{ℕ, min, ◌*◌, ◌≤◌, ◌<◌}
 use mathlib.Core.Bool.{Bool, true, false, cond}
-use mathlib.Core.List.{List, ◌++◌}
+use mathlib.Core.List.{List, [], ◌++◌}
 use native.Mathlib.Omega.{arith}
-use borrow.Author.Tests.{lt-leb, le-leb}
-use lib.ListN.{length, drop, replicate, length-replicate, get_or-replicate, length-append}
+use native.Mathlib.Decide.{dec_lt}
+use borrow.Author.Tests.{le-leb}
+use lib.Dec.{leb}
+use lib.ListN.{length, take, drop, replicate, length-replicate, get_or-replicate, length-append, take-append-drop}
+use lib.Seq.{length-take-le}
 use lib.Ieee.{Float}
-use Rattle.kinematics.specs.Inner.{blocks_of, new_block, WorkedOut, blocks_laid}
-use Rattle.floats.specs.Inner.{overlaid}
-use Rattle.floats.proofs.Rows.{overlaid_front}
+use Rattle.kinematics.specs.Inner.{new_block, WorkedOut, blocks_laid, work_at}
+use Rattle.lists.proofs.Parts.{blocks_same, replicated}
 use Rattle.limits.specs.Limits.{link_limit, block_size, table_size}
 use Rattle.floats.specs.Floats.{zero32}
 use Rattle.arm.specs.declared.Link.{Link}
-use Rattle.kinematics.specs.declared.Refreshed.{Refreshed}
-use Rattle.kinematics.specs.Blocks.{block_at}
+use Rattle.kinematics.specs.Blocks.{zero_block, block_at}
 use Rattle.kinematics.specs.State.{State, marked, state_after, fine_after, cleared, every_link}
-use Rattle.kinematics.specs.Answers.{out, passed, refresh_marked, refresh_all}
-use Rattle.kinematics.proofs.Laid.{laid_same, laid_block, laid_length}
+use Rattle.kinematics.specs.Answers.{Refreshed, out, passed, refresh_marked, refresh_all}
+use Rattle.kinematics.proofs.Laid.{laid_same, laid_block, laid_beyond, laid_length, laid_front}
 use Rattle.kinematics.proofs.Turns.{tables_after, new_size}
-use Rattle.kinematics.proofs.Same.{worked_marks, every_links, every_fine, every_tables}
+use Rattle.kinematics.proofs.Same.{laid_marks, worked_marks, every_links, every_fine, every_tables}
 
 abbrev pub zeros : List Float
 zeros = replicate table_size zero32
 
-pub zeros_length : length zeros ≡ table_size
+zeros_length : length zeros ≡ table_size
 zeros_length = length-replicate table_size zero32
+
+-- a work area that has yet to be written
+abbrev pub no_work : List (List Float)
+no_work = replicate link_limit zero_block
 
 module _ (f : Bool) (s : State) (ls : List Link) (t : List Float) where
   pub passed_no : f ≡ false → out (record { fine = false; links = ls }) t ≡ passed f s ls t
@@ -36,50 +41,83 @@ module _ (f : Bool) (s : State) (ls : List Link) (t : List Float) where
   unfolding passed
   passed_yes h r m p q e = rw h (λ i. out (record { fine = p i; links = q i }) (e i))
 
-module _ (ls : List Link) (count : ℕ) (t : List Float) where
-  pub marked_short : (b : ℕ → Bool) → length t < table_size → out (record { fine = false; links = ls }) t ≡ refresh_marked ls count b t
-  unfolding refresh_marked
-  marked_short b h = passed_no _ _ ls t (rw (lt-leb table_size (length t) h))
+-- each block laid over, by blocks that agree where either is laid: what lies there before counts for nothing
+laid_over : (n : ℕ) → n ≤ link_limit → (f new : ℕ → List Float) (t : List Float) → table_size ≤ length t → ((j : ℕ) → j < n → length (new j) ≡ block_size)
+    → ((j : ℕ) → j < n → f j ≡ new j) → ((j : ℕ) → n ≤ j → j < link_limit → f j ≡ zero_block)
+    → blocks_laid every_link f link_limit t ≡ blocks_laid every_link new n zeros ++ drop table_size t
+laid_over n fit f new t long size same past =
+    ap (blocks_laid every_link f link_limit) (sym (take-append-drop table_size t))
+    ∙ laid_front every_link f link_limit f_size front (drop table_size t) (omega (arith, front_length)) link_limit (omega arith)
+    ∙ ap (λ (y : List Float). y ++ drop table_size t)
+      (blocks_same block_size link_limit _ _
+      (laid_length every_link f link_limit f_size front (omega (arith, front_length)) link_limit (omega arith) ∙ front_length)
+      (laid_length every_link new n size zeros (omega (arith, enough, zeros_length)) n (omega arith) ∙ zeros_length)
+      (λ j h. laid_block every_link f link_limit f_size front (omega (arith, front_length)) link_limit (omega arith) j h ∙ go j h))
+  where
+    front : List Float
+    front = take table_size t
 
-  pub all_short : length t < table_size → out (record { fine = false; links = ls }) t ≡ refresh_all ls count t
+    front_length : length (take table_size t) ≡ table_size
+    front_length = length-take-le table_size t long
+
+    enough : n * block_size ≤ table_size
+    enough = omega (arith, fit)
+
+    f_size : (j : ℕ) → j < link_limit → length (f j) ≡ block_size
+    f_size j h = elim (dec_lt j n) [
+      | yes q ↦ ap length (same j q) ∙ size j q
+      | no q ↦ ap length (past j (omega arith) h) ∙ length-replicate block_size zero32
+    ]
+
+    go : (j : ℕ) → j < link_limit → f j ≡ block_at j (blocks_laid every_link new n zeros)
+    go j h = elim (dec_lt j n) [
+      | yes q ↦ same j q ∙ sym (laid_block every_link new n size zeros (omega (arith, enough, zeros_length)) n (omega arith) j q)
+      | no q ↦
+          past j (omega arith) h
+          ∙ sym (laid_beyond every_link new n size zeros (omega (arith, enough, zeros_length)) n (omega arith) j (omega arith) ∙ replicated block_size link_limit zero32 j h)
+    ]
+
+module _ (ls : List Link) (count : ℕ) (t : List Float) where
+  pub marked_short : (b : ℕ → Bool) → leb table_size (length t) ≡ false → out (record { fine = false; links = ls }) t ≡ refresh_marked ls count b t
+  unfolding refresh_marked
+  marked_short b h = passed_no _ _ ls t (rw h)
+
+  pub all_short : leb table_size (length t) ≡ false → out (record { fine = false; links = ls }) t ≡ refresh_all ls count t
   unfolding refresh_all
-  all_short h = passed_no _ _ ls t (rw (lt-leb table_size (length t) h))
+  all_short h = passed_no _ _ ls t (rw h)
 
   pub is_marked : (b : ℕ → Bool) (n : ℕ) → n ≡ min count link_limit → table_size ≤ length t
       → passed (fine_after ls n b t) (state_after ls n b t) ls t ≡ refresh_marked ls count b t
   unfolding refresh_marked
   is_marked b n e long = rw (e, le-leb table_size (length t) long)
 
-  module _ (sized : length ls ≡ link_limit) (long : table_size ≤ length t) (n : ℕ) (e : n ≡ min count link_limit) (work : List Float) (r : Refreshed) where
+  module _ (sized : length ls ≡ link_limit) (long : table_size ≤ length t) (n : ℕ) (e : n ≡ min count link_limit) (work : List (List Float)) (r : Refreshed) where
     fit : n ≤ link_limit
     fit = omega arith
 
-    enough : n * block_size ≤ table_size
-    enough = omega (arith, fit)
-
     -- ---- the marked links
 
-    module _ (b : ℕ → Bool) (k : WorkedOut ls n b t zeros work r.links r.fine) where
+    module _ (b : ℕ → Bool) (k : WorkedOut ls n b t no_work work r) where
       pub marked_no : r.fine ≡ false → out (record { fine = false; links = ls }) t ≡ refresh_marked ls count b t
       marked_no h = passed_no _ _ ls t (sym k.test ∙ h) ∙ is_marked b n e long
 
-      -- the blocks that are written back are those that the pass leaves
-      committed : blocks_laid b (blocks_of work) n t ≡ (state_after ls n b t).tables
-      committed =
-          laid_same b (blocks_of work) (new_block ls b t) t n (λ j h m.
-          ap (block_at j) k.blocks
-          ∙ laid_block b (new_block ls b t) n (new_size ls b t n fit sized long) zeros (omega (arith, enough, zeros_length)) n (omega arith) j h
-          ∙ ap (λ (y : Bool). cond y (new_block ls b t j) (block_at j zeros)) m)
-          ∙ sym (tables_after ls b t n)
-
-      pub marked_yes : r.fine ≡ true → (m : List Float) → m ≡ blocks_laid b (blocks_of work) n t → out r m ≡ refresh_marked ls count b t
-      marked_yes h m q = passed_yes _ _ ls t (sym k.test ∙ h) r m h k.refreshed (q ∙ committed) ∙ is_marked b n e long
+      pub marked_yes : r.fine ≡ true → (m : List Float) → m ≡ blocks_laid b (work_at work) n t → out (record { fine = true; links = r.links }) m ≡ refresh_marked ls count b t
+      marked_yes h m q =
+          passed_yes _ _ ls t (sym k.test ∙ h) _ m refl (k.links h)
+          (q ∙ laid_same b (work_at work) (new_block ls b t) t n (k.marked h) ∙ sym (tables_after ls b t n))
+          ∙ is_marked b n e long
 
     -- ---- all links
 
-    module _ (k : WorkedOut ls n (marked (replicate link_limit true)) t zeros work r.links r.fine) where
-      k' : WorkedOut ls n every_link t zeros work r.links r.fine
-      k' = worked_marks ls (marked (replicate link_limit true)) every_link t n (λ j h. get_or-replicate link_limit j true false (omega (arith, fit))) zeros work r.links r.fine k
+    abbrev every : ℕ → Bool
+    every = marked (replicate link_limit true)
+
+    is_every : (j : ℕ) → j < link_limit → every j ≡ every_link j
+    is_every j h = get_or-replicate link_limit j true false h
+
+    module _ (k : WorkedOut ls n every t no_work work r) where
+      k' : WorkedOut ls n every_link t no_work work r
+      k' = worked_marks ls every every_link t n (λ j h. is_every j (omega (arith, fit))) no_work work r k
 
       is_all : passed (fine_after ls n every_link (cleared t)) (state_after ls n every_link (cleared t)) ls t ≡ refresh_all ls count t
       unfolding refresh_all
@@ -94,15 +132,16 @@ module _ (ls : List Link) (count : ℕ) (t : List Float) where
       pub all_no : r.fine ≡ false → out (record { fine = false; links = ls }) t ≡ refresh_all ls count t
       all_no h = passed_no _ _ ls t (sym test_all ∙ h) ∙ is_all
 
-      work_length : length work ≡ table_size
-      work_length =
-          ap length k'.blocks
-          ∙ laid_length every_link (new_block ls every_link t) n (new_size ls every_link t n fit sized long) zeros (omega (arith, enough, zeros_length)) n (omega arith)
-          ∙ zeros_length
+      all_tables : r.fine ≡ true → blocks_laid every (work_at work) link_limit t ≡ (state_after ls n every_link (cleared t)).tables
+      all_tables h =
+          laid_marks ls every every_link t (work_at work) t link_limit is_every
+          ∙ laid_over n fit (work_at work) (new_block ls every_link t) t long (new_size ls every_link t n fit sized long)
+            (λ j l. k'.marked h j l refl) (λ j l m. k'.beyond h j l ∙ get_or-replicate link_limit j zero_block [] m)
+          ∙ every_tables ls sized n fit t long
 
-      pub all_yes : r.fine ≡ true → (m : List Float) → m ≡ overlaid t work → out r m ≡ refresh_all ls count t
+      pub all_yes : r.fine ≡ true → (m : List Float) → m ≡ blocks_laid every (work_at work) link_limit t → out (record { fine = true; links = r.links }) m ≡ refresh_all ls count t
       all_yes h m q =
-          passed_yes _ _ ls t (sym test_all ∙ h) r m h
-          (k'.refreshed ∙ every_links ls sized t (cleared t) long long' n fit)
-          (q ∙ overlaid_front table_size t work work_length long ∙ ap (λ (y : List Float). y ++ drop table_size t) k'.blocks ∙ every_tables ls sized n fit t long)
+          passed_yes _ _ ls t (sym test_all ∙ h) _ m refl
+          (k'.links h ∙ every_links ls sized t (cleared t) long long' n fit)
+          (q ∙ all_tables h)
           ∙ is_all

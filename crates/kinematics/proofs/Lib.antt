@@ -8,3 +8,4 @@ pub mod Ends
 pub mod One
 pub mod Promises
 pub mod Columns
+pub mod Refused

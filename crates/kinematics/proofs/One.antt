@@ -12,7 +12,9 @@ use lib.Dec.{leb, ltb}
 use lib.ListN.{length, set}
 use lib.Seq.{set-get_or}
 use lib.Ieee.{Float}
-use Rattle.kinematics.specs.Inner.{posed_of, TurnedTo, result_of, TurnedOutcome, turned_out, one_kept, one_fits, refresh_one}
+use Rattle.std.specs.Prelude.{Option, None, Some}
+use Rattle.std.specs.Option.{option_and}
+use Rattle.kinematics.specs.Inner.{posed_of, parent_before, kept_block, Turned, TurnedTo, result_of, TurnedOutcome, turned_out, one_kept, one_fits, refresh_one}
 use Rattle.arm.specs.Arm.{no_link, link_at, locked_of}
 use Rattle.lists.proofs.Numbers.{all_below_lem}
 use Rattle.lists.specs.Numbers.{all_below}
@@ -48,37 +50,26 @@ module _ (l above : Link) (start j : ℕ) (t : List Float) where
   unfolding refresh_one
   one_unfit h = rw h
 
-  module _ (p : ℕ) (ep : p ≡ min l.parent j) (copied own : List Float) (ec : copied ≡ cond (ltb p j) (block_at p t) zero_block) (link : Link) (fine : Bool)
-      (turn : TurnedTo (posed_of (ltb p j) above l) l start copied own link fine) where
-    first : ltb p j ≡ false → Turn l link own fine (root_kept x)
-    unfolding root_kept posed_of
-    first q =
-        turned_kept _ _ l x start copied _ own link fine (ap (λ (m : Bool). posed_of m above l) q) (ec ∙ ap (λ (m : Bool). cond m (block_at p t) zero_block) q) refl refl turn
+  module _ (parent : Option ℕ) (ep : parent ≡ parent_before l j) (o : Option Link) (eo : o ≡ option_and parent (Some above)) (c : List Float) (ec : c ≡ kept_block parent t)
+      (own : List Float) (new : Turned) (turn : TurnedTo (posed_of o l) l start c own new) where
+    its : Turn l own new (one_kept l above start j t)
+    unfolding one_kept root_kept later_kept posed_of
+    its = go (ltb l.parent j) ep
+      where
+        go : (m : Bool) → parent ≡ cond m (Some l.parent) None → Turn l own new (cond m (later_kept up x) (root_kept x))
+        go true e = turned_kept _ _ l x start c _ own new (ap (λ (y : Option Link). posed_of y l) (eo ∙ ap (λ (y : Option ℕ). option_and y (Some above)) e)) (ec ∙ ap (λ (y : Option ℕ). kept_block y t) e) refl refl turn
+        go false e = turned_kept _ _ l x start c _ own new (ap (λ (y : Option Link). posed_of y l) (eo ∙ ap (λ (y : Option ℕ). option_and y (Some above)) e)) (ec ∙ ap (λ (y : Option ℕ). kept_block y t) e) refl refl turn
 
-    later : p ≡ l.parent → ltb p j ≡ true → Turn l link own fine (later_kept up x)
-    unfolding later_kept posed_of
-    later e q =
-        turned_kept _ _ l x start copied _ own link fine (ap (λ (m : Bool). posed_of m above l) q) (ec ∙ ap₂ (λ (m : Bool) (k : ℕ). cond m (block_at k t) zero_block) q e) refl refl turn
+    its_link : (f : Bool) → new.fine ≡ f → new.link ≡ cond f (with_kept l (one_kept l above start j t)) l
+    its_link f q = its.place ∙ ap (λ (y : Bool). cond y (with_kept l (one_kept l above start j t)) l) q
 
-    its : Turn l link own fine (one_kept l above start j t)
-    unfolding one_kept
-    its = elim (dec_lt l.parent j) [
-      | yes q ↦
-          subst (λ (m : Bool). Turn l link own fine (cond m (later_kept up x) (root_kept x))) (sym (lt-ltb l.parent j q)) (later (omega arith) (lt-ltb p j (omega arith)))
-      | no q ↦
-          subst (λ (m : Bool). Turn l link own fine (cond m (later_kept up x) (root_kept x))) (sym (le-ltb l.parent j (omega arith))) (first (le-ltb p j (omega arith)))
-    ]
-
-    pub one_no : fine ≡ false → turned_out (record { link = l; fine = false }) t ≡ refresh_one l above start j t
+    pub one_no : new.fine ≡ false → turned_out (record { link = new.link; fine = false }) t ≡ refresh_one l above start j t
     unfolding refresh_one
-    one_no q = rw (sym its.test ∙ q, and-false (one_fits start j t))
+    one_no q = rw (sym its.test ∙ q, and-false (one_fits start j t)) (λ i. turned_out (record { link = its_link false q i; fine = false }) t)
 
-    pub one_yes : one_fits start j t ≡ true → fine ≡ true → (m : List Float) → m ≡ with_block j own t
-        → turned_out (record { link = link; fine = fine }) m ≡ refresh_one l above start j t
+    pub one_yes : one_fits start j t ≡ true → new.fine ≡ true → (m : List Float) → m ≡ with_block j own t → turned_out (record { link = new.link; fine = true }) m ≡ refresh_one l above start j t
     unfolding refresh_one
-    one_yes h q m e =
-        rw (h, sym its.test ∙ q)
-        (λ i. turned_out (record { link = its.place i; fine = q i }) ((e ∙ ap (λ (b : List Float). with_block j b t) its.block) i))
+    one_yes h q m e = rw (h, sym its.test ∙ q) (λ i. turned_out (record { link = its_link true q i; fine = true }) ((e ∙ ap (λ (b : List Float). with_block j b t) its.block) i))
 
 -- ---- the pass over it
 
@@ -178,7 +169,7 @@ module _ (ls : List Link) (sized : length ls ≡ link_limit) (t : List Float) (c
   unfolding refresh_one
   one_marked = elim (dec_lt (length t) table_size) [
     | yes q ↦
-        sym (marked_short ls count t (only j) q)
+        sym (marked_short ls count t (only j) (lt-leb table_size (length t) q))
         ∙ (λ i. out (record { fine = false; links = sym (set-get_or ls j no_link) i }) t)
         ∙ ap (as_marked ls j) (one_unfit (link_at ls j) above start j t (rw (lt-leb table_size (length t) q)))
     | no q ↦

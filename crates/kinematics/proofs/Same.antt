@@ -14,6 +14,7 @@ use Rattle.limits.specs.Limits.{link_limit, block_size, table_size}
 use Rattle.floats.specs.Floats.{zero32}
 use Rattle.arm.specs.declared.Link.{Link}
 use Rattle.kinematics.specs.Link.{Kept, finite_kept, with_kept}
+use Rattle.kinematics.specs.Answers.{Refreshed}
 use Rattle.kinematics.specs.Pass.{run}
 use Rattle.kinematics.specs.State.{State, state, inputs_of, kept_at, put_kept, kept_ops, state_after, fine_after, cleared, parent_at, every_link}
 use Rattle.kinematics.proofs.Pass.{new_same, only, run_same, full_fresh}
@@ -32,18 +33,18 @@ module _ (ls : List Link) (b b' : ℕ → Bool) (t : List Float) where
   unfolding fine_after
   fine_marks n h = all_same n _ _ (λ j l. rw (h j l, state_marks n h))
 
-  laid_marks : (new new' : ℕ → List Float) (w : List Float) (n : ℕ) → ((j : ℕ) → j < n → b j ≡ b' j) → ((j : ℕ) → j < n → new j ≡ new' j) → blocks_laid b new n w ≡ blocks_laid b' new' n w
+  pub laid_marks : (new : ℕ → List Float) (w : List Float) (n : ℕ) → ((j : ℕ) → j < n → b j ≡ b' j) → blocks_laid b new n w ≡ blocks_laid b' new n w
   unfolding blocks_laid
-  laid_marks new new' w zero h e = refl
-  laid_marks new new' w (suc n) h e = rw (h n (omega arith), e n (omega arith), laid_marks new new' w n (λ j l. h j (omega arith)) (λ j l. e j (omega arith)))
+  laid_marks new w zero h = refl
+  laid_marks new w (suc n) h = rw (h n (omega arith), laid_marks new w n (λ j l. h j (omega arith)))
 
-  pub worked_marks : (n : ℕ) → ((j : ℕ) → j < n → b j ≡ b' j) → (work work' : List Float) (links : List Link) (fine : Bool)
-      → WorkedOut ls n b t work work' links fine → WorkedOut ls n b' t work work' links fine
+  pub worked_marks : (n : ℕ) → ((j : ℕ) → j < n → b j ≡ b' j) → (work work' : List (List Float)) (new : Refreshed) → WorkedOut ls n b t work work' new → WorkedOut ls n b' t work work' new
   unfolding new_block
-  worked_marks n h work work' links fine k = record {
-    blocks = k.blocks ∙ laid_marks _ _ work n h (λ j l. ap (λ (s : State). (result_of ls s j).block) (state_marks j (λ i m. h i (omega arith))));
-    refreshed = k.refreshed ∙ ap (λ (s : State). s.links) (state_marks n h);
+  worked_marks n h work work' new k = record {
     test = k.test ∙ fine_marks n h;
+    links = λ f. k.links f ∙ ap (λ (s : State). s.links) (state_marks n h);
+    marked = λ f j l m. k.marked f j l (h j l ∙ m) ∙ ap (λ (s : State). (result_of ls s j).block) (state_marks j (λ i q. h i (omega arith)));
+    beyond = k.beyond;
   }
 
 -- ---- the full pass

@@ -26,6 +26,11 @@ unfoldable pub copied_from : Option ℕ → (ℕ → Bool) → List Float → Li
 copied_from None fresh tables work = zero_block
 copied_from (Some p) fresh tables work = cond (fresh p) (work_at work p) (block_at p tables)
 
+-- of the tables alone
+abbrev pub kept_block : Option ℕ → List Float → List Float
+kept_block None tables = zero_block
+kept_block (Some p) tables = block_at p tables
+
 -- where a link is: a later one's by its parent's link, a root's by itself
 unfoldable pub posed_of : Option Link → Link → Posed
 posed_of (Some above) l = later_posed above.world above.centre l.joint l.centre

@@ -2,9 +2,11 @@
 // Poses and shifts are kept in the links, Jacobian blocks in lent tables.
 #![tactic(auto)]
 
-ghost use Rattle.std.specs.Prelude.{◌≡◌, ◌+◌, ◌≤◌, ◌<◌, length, set, OnSome, IsOkUnless};
+ghost use Rattle.std.specs.Prelude.{◌≡◌, ◌+◌, ◌≤◌, ◌<◌, length, set, IfSome, IsOkUnless};
+ghost use Rattle.std.specs.Option.{option_map};
+ghost use Rattle.arm.specs.Arm.{link_at};
 ghost use Rattle.refusal.specs.declared.Refusal.{Refusal};
-ghost use Rattle.kinematics.specs.Inner.{copied_from, posed_of, parent_before, block_of, TurnedTo, WorkedOut, blocks_laid, work_at, one_fits, turned_out, turned, refresh_one};
+ghost use Rattle.kinematics.specs.Inner.{copied_from, posed_of, parent_before, TurnedTo, kept_block, WorkedOut, blocks_laid, work_at, one_fits, turned_out, turned, refresh_one};
 ghost use Rattle.limits.specs.Limits.{link_limit, dof_limit, table_size};
 ghost use Rattle.kinematics.specs.Blocks.{block_at, with_block, shifted, column_added, axis_added, own_added};
 ghost use Rattle.kinematics.specs.Link.{root_posed, later_posed, block_from, finite_place};
@@ -25,6 +27,7 @@ use refusal::{Refusal, unless};
 // ---- Jacobian blocks: three rows, a column for each degree of freedom
 
 // Each column (v0, v1, w) becomes (v0 + (−shift.y)·w, v1 + shift.x·w, w).
+#[tactic(auto, using(crate::proofs::Shift::columns_none, crate::proofs::Shift::columns_more, crate::proofs::Shift::columns_done), unfolding(crate::specs::Blocks::shifted))]
 fn shift_block(block: &mut [f32; BLOCK], shift: Point)
     ensures { block.new ≡ shifted shift block.old }
 {
@@ -38,6 +41,7 @@ fn shift_block(block: &mut [f32; BLOCK], shift: Point)
 }
 
 // (x, y, w) more in a column.
+#[tactic(auto, unfolding(crate::specs::Blocks::column_added))]
 fn add_column(block: &mut [f32; BLOCK], c: usize, x: f32, y: f32, w: f32)
     requires { c < dof_limit }
     ensures { block.new ≡ column_added c x y w block.old }
@@ -48,6 +52,7 @@ fn add_column(block: &mut [f32; BLOCK], c: usize, x: f32, y: f32, w: f32)
 }
 
 // The column of an axis, if it is free.
+#[tactic(auto, using(masks::proofs::Laws::below_free, masks::proofs::Laws::dofs_le), unfolding(crate::specs::Blocks::axis_added))]
 fn add_axis(block: &mut [f32; BLOCK], locked: u8, start: usize, axis: u32, x: f32, y: f32, w: f32)
     requires { start + 3 ≤ dof_limit }
     ensures { block.new ≡ axis_added locked start axis x y w block.old }
@@ -58,6 +63,7 @@ fn add_axis(block: &mut [f32; BLOCK], locked: u8, start: usize, axis: u32, x: f3
 }
 
 // The joint's own columns, where `turn` is the parent's world rotation times frame 1's.
+#[tactic(auto, unfolding(crate::specs::Blocks::own_added))]
 fn add_own_columns(block: &mut [f32; BLOCK], locked: u8, start: usize, turn: Rotation)
     requires { start + 3 ≤ dof_limit }
     ensures { block.new ≡ own_added locked start turn block.old }
@@ -81,11 +87,13 @@ pub struct Posed {
 impl Finite for Posed {
     ghost finite = { λ p. finite_place p.world p.shift02 p.shift23 };
 
+    #[tactic(auto, unfolding(crate::specs::Link::finite_place))]
     fn is_finite(&self) -> bool {
         self.world.is_finite() & self.shift02.is_finite() & self.shift23.is_finite()
     }
 }
 
+#[tactic(auto, unfolding(crate::specs::Link::root_posed))]
 fn root_posed(joint: Joint, centre: Point) -> Posed
     ensures { result ≡ root_posed joint centre }
 {
@@ -102,6 +110,7 @@ fn root_posed(joint: Joint, centre: Point) -> Posed
 }
 
 // From the parent's world pose and centre of mass.
+#[tactic(auto, unfolding(crate::specs::Link::later_posed))]
 fn later_posed(above: Pose, centre_above: Point, joint: Joint, centre: Point) -> Posed
     ensures { result ≡ later_posed above centre_above joint centre }
 {
@@ -117,6 +126,7 @@ fn later_posed(above: Pose, centre_above: Point, joint: Joint, centre: Point) ->
     }
 }
 
+#[tactic(auto, unfolding(crate::specs::Inner::posed_of))]
 fn pose_link(above: Option<Link>, l: &Link) -> Posed
     ensures { result ≡ posed_of above l.now }
 {
@@ -127,6 +137,7 @@ fn pose_link(above: Option<Link>, l: &Link) -> Posed
 }
 
 // The block that was copied from the parent's becomes the link's own.
+#[tactic(auto, unfolding(crate::specs::Link::block_from))]
 fn work_block(block: &mut [f32; BLOCK], p: Posed, locked: u8, start: usize)
     requires { start + 3 ≤ dof_limit }
     ensures { block.new ≡ block_from p locked start block.old }
@@ -137,6 +148,7 @@ fn work_block(block: &mut [f32; BLOCK], p: Posed, locked: u8, start: usize)
 }
 
 // A link's turn: the block that was copied from its parent's becomes its own. The link stays where a result isn't finite.
+#[tactic(auto, unfolding(arm::specs::Setters::with_place))]
 fn refresh_link(
     link: &mut Link,
     above: Option<Link>,
@@ -166,16 +178,25 @@ fn parent_before(l: &Link, j: usize) -> Option<usize>
     if p < j { Some(p) } else { None }
 }
 
+// That parent, as the pass has left it.
+fn link_above(links: &[Link; LINKS], parent: Option<usize>) -> Option<Link>
+    requires { IfSome parent (λ p. p < link_limit) }
+    ensures { result ≡ option_map (link_at links.now) parent }
+{
+    parent.map(|p| links[p])
+}
+
 // Link p's block, as the tables keep it.
-fn block_of(tables: &[f32], p: usize) -> &[f32]
+fn block_of(tables: &[f32], p: usize) -> &[f32; BLOCK]
     requires { (p < link_limit) × (table_size ≤ length tables.now) }
     ensures { result.now ≡ block_at p tables.now }
 {
-    &tables[p * BLOCK..(p + 1) * BLOCK]
+    tables[p * BLOCK..].first_chunk().unwrap()
 }
 
 // Link j's place in the work area takes the block that the link copies: that of its parent, which was just worked out there if the parent is marked,
 // and else is kept in the tables. A root copies zeros.
+#[tactic(auto, unfolding(crate::specs::Inner::copied_from))]
 fn copy_parent(
     work: &mut [[f32; BLOCK]; LINKS],
     j: usize,
@@ -183,7 +204,7 @@ fn copy_parent(
     marks: &[bool; LINKS],
     tables: &[f32],
 )
-    requires { (j < link_limit) × (table_size ≤ length tables.now) × OnSome parent (λ p. p < link_limit) }
+    requires { (j < link_limit) × (table_size ≤ length tables.now) × IfSome parent (λ p. p < link_limit) }
     ensures { work.new ≡ set work.old j (copied_from parent (marked marks.now) tables.now work.old) }
 {
     match parent {
@@ -192,7 +213,7 @@ fn copy_parent(
             if marks[p] {
                 work[j] = work[p];
             } else {
-                work[j].copy_from_slice(block_of(tables, p));
+                work[j] = *block_of(tables, p);
             }
         }
     }
@@ -216,7 +237,7 @@ fn work_out(
         let locked = links[j].joint.locked;
         if marks[j] {
             let parent = parent_before(&links[j], j);
-            let above = parent.map(|p| links[p]);
+            let above = link_above(links, parent);
             copy_parent(work, j, parent, marks, tables);
             refresh_link(&mut links[j], above, start, &mut work[j])?;
         }
@@ -234,6 +255,7 @@ fn put_block(tables: &mut [f32], j: usize, block: &[f32; BLOCK])
 }
 
 // The blocks of the first n links that are marked go from `work` into the tables.
+#[tactic(auto, using(crate::proofs::Laid::laid_none, crate::proofs::Laid::laid_more, crate::proofs::Laid::laid_skip))]
 fn commit(work: &[[f32; BLOCK]; LINKS], n: usize, marks: &[bool; LINKS], tables: &mut [f32])
     requires n_le_link_limit { n ≤ link_limit }
     requires table_size_in_bounds { table_size ≤ length tables.old }
@@ -267,6 +289,17 @@ pub fn refresh_marked(
     Ok(())
 }
 
+// The block that a link copies of the tables: its parent's. A root copies zeros.
+fn kept_block(tables: &[f32], parent: Option<usize>) -> [f32; BLOCK]
+    requires { (table_size ≤ length tables.now) × IfSome parent (λ p. p < link_limit) }
+    ensures { result ≡ kept_block parent tables.now }
+{
+    match parent {
+        Some(p) => *block_of(tables, p),
+        None => [0.0; BLOCK],
+    }
+}
+
 // Are there tables, a place for link j, and three columns from `start` on?
 fn fits_one(tables: &[f32], j: usize, start: usize) -> bool
     ensures { result ≡ one_fits start j tables.now }
@@ -288,11 +321,8 @@ pub fn refresh_one(
 {
     unless(fits_one(tables, j, start), Refusal::Overflow)?;
     let parent = parent_before(link, j);
-    let mut block = [0.0f32; BLOCK];
-    if let Some(p) = parent {
-        block.copy_from_slice(block_of(tables, p));
-    }
-    refresh_link(link, parent.map(|_| *above), start, &mut block)?;
+    let mut block = kept_block(tables, parent);
+    refresh_link(link, parent.and(Some(*above)), start, &mut block)?;
     put_block(tables, j, &block);
     Ok(())
 }

@@ -1,66 +1,49 @@
-use Rattle.arm.specs.Arm.{no_link}
-use Rattle.kinematics.proofs.Turns.{held_all, held_more, held_none, held_skip, start_room}
+-- `work_out`: turn by turn. Assumes nothing.
+use Rattle.std.proofs.Common.{◌≡◌, ◌∙◌, ap, sym, refl, arith, ℕ, length, rules}
+use Rattle.kinematics.specs.Inner.{turned}
 use Rattle.kinematics.specs.State.{marked}
-use lib.ListN.{get_or}
-use Prim.Native.Nat.{◌+◌, ◌≤◌}
-use native.Mathlib.Omega.{arith}
-use Rattle.limits.specs.Limits.{dof_limit}
 use Rattle.masks.proofs.Laws.{dofs_le}
-use borrow.Author.Rules.{rules}
+use Rattle.kinematics.proofs.Turns.{held_all, held_more, held_none, held_skip, start_room, worked_no, not_fine}
+use Rattle.kinematics.proofs.Refused.{not_ok}
+use Rattle.std.specs.Prelude.{is_ok}
 use Rattle.kinematics.proofs.work_out.Goals as goal
-use Rattle.kinematics.proofs.work_out.Goals.{then-marks-j, else-marks-j}
+use Rattle.kinematics.proofs.work_out.Goals.{then-marks-j+in_ok-refresh_link, else-marks-j}
 
 pub loop-j-init : goal.loop-j-init
 loop-j-init c =
-    held_none c.args.given c.args.n (marked c.args.marks) c.args.tables.now c.args.work.now c.well_formed.0.1.0.1 c.requires.work_len
+    held_none c.args.links.now c.args.n (marked c.args.marks.now) c.args.tables.now c.args.work.now (omega arith) (omega arith)
 
-pub copy_parent-requires : goal.copy_parent-requires
-copy_parent-requires c =
-    (omega (arith, c.requires.n_le_link_limit), c.requires.table_size_in_bounds, c.loop-j.invariant.room)
-
-pub overflow_mul-at : goal.overflow_mul-at
-overflow_mul-at c =
-    omega (arith, c.requires.n_le_link_limit)
-
-pub overflow_add-end : goal.overflow_add-end
-overflow_add-end c =
-    omega (arith, c.requires.n_le_link_limit)
-
-pub refresh_link-t-requires : goal.refresh_link-t-requires
-refresh_link-t-requires c = (search rules, start_room c.args.given c.loop-j.j c.loop-j.start c.args.n c.loop-j-test.true c.requires.n_le_link_limit c.loop-j.invariant.begins)
-
-pub offset_bounds-links-j : goal.offset_bounds-links-j
-offset_bounds-links-j c = omega (arith, c.requires.n_le_link_limit)
-
-pub bounds-links-j : goal.bounds-links-j
-bounds-links-j c = omega (arith, c.requires.n_le_link_limit)
+pub refresh_link-requires : goal.refresh_link-requires
+refresh_link-requires c = start_room c.args.links.now c.loop-j.j c.loop-j.start c.args.n c.loop-j-test.true c.requires.n_le_link_limit c.loop-j.invariant.begins
 
 pub overflow_add-start : goal.overflow_add-start
 overflow_add-start c =
-    let room : c.loop-j.start + 3 ≤ dof_limit = start_room c.args.given c.loop-j.j c.loop-j.start c.args.n c.loop-j-test.true c.requires.n_le_link_limit c.loop-j.invariant.begins in
-    omega (arith, room, dofs_le (get_or c.args.given c.loop-j.j no_link).joint.locked, c.dofs-start.ensures)
+    omega (arith, c.dofs-start.ensures, dofs_le, start_room c.args.links.now c.loop-j.j c.loop-j.start c.args.n c.loop-j-test.true c.requires.n_le_link_limit c.loop-j.invariant.begins)
+
+pub returns-in_err-refresh_link-clause-worked : goal.returns-in_err-refresh_link-clause-worked
+returns-in_err-refresh_link-clause-worked c =
+    worked_no c.args.links.now c.args.n (marked c.args.marks.now) c.args.tables.now c.args.work.now _ _ (not_ok c.from_residual.result c.from_residual.ensures.0)
+    (not_fine c.args.links.now c.args.n c.requires.n_le_link_limit c.told-links (marked c.args.marks.now) c.args.tables.now c.args.work.now c.requires.table_size_in_bounds
+    c.loop-j.j c.loop-j.start c.loop-j.work c.loop-j.links c.loop-j.invariant c.loop-j-test.true c.if-marks-j.true
+    c.parent_before-parent.result c.parent_before-parent.ensures c.copy_parent.new.work c.copy_parent.ensures c.link_above-above.result c.link_above-above.ensures
+    c.refresh_link.new.block _ c.refresh_link.ensures.turn (ap is_ok c.in_err-refresh_link.was))
 
 pub loop-j-preserved : goal.loop-j-preserved
-loop-j-preserved c =
-    let now = c.loop-j in
-    let ls = c.args.given in
-    let n = c.args.n in
-    let b = marked c.args.marks in
-    let t = c.args.tables.now in
-    let o = c.args.work.now in
-    let then = c.if-marks-j in
-    elim then.branch [
-      | then-marks-j w ↦ held_more ls n c.requires.n_le_link_limit c.well_formed.0.1.0.1 b t o c.requires.table_size_in_bounds c.requires.work_len now.j now.start now.work now.links now.fine now.invariant
-          c.loop-j-test.true c.dofs-start.result c.dofs-start.ensures then.work then.links then.fine
-          w.if-marks-j.true w.fewer-p.result w.fewer-p.ensures w.copy_parent.new.work w.copy_parent.ensures w.refresh_link-t.new.block w.refresh_link-t.result.link w.refresh_link-t.result.fine w.refresh_link-t.ensures
-          w.work-is w.refresh_link-t.auto.block w.links-is w.fine-is
-      | else-marks-j w ↦ held_skip ls n c.requires.n_le_link_limit c.well_formed.0.1.0.1 b t o c.requires.table_size_in_bounds c.requires.work_len now.j now.start now.work now.links now.fine now.invariant
-          c.loop-j-test.true c.dofs-start.result c.dofs-start.ensures then.work then.links then.fine
-          w.if-marks-j.false w.work-is w.links-is w.fine-is
-    ]
+loop-j-preserved c = elim c.if-marks-j.branch [
+  | then-marks-j+in_ok-refresh_link w ↦
+      held_more c.args.links.now c.args.n c.requires.n_le_link_limit c.told-links (marked c.args.marks.now) c.args.tables.now c.args.work.now c.requires.table_size_in_bounds
+      c.loop-j.j c.loop-j.start c.loop-j.work c.loop-j.links c.loop-j.invariant c.loop-j-test.true w.if-marks-j.true
+      w.parent_before-parent.result w.parent_before-parent.ensures w.copy_parent.new.work w.copy_parent.ensures w.link_above-above.result w.link_above-above.ensures
+      w.refresh_link.new.block _ w.refresh_link.ensures.turn (ap is_ok w.in_ok-refresh_link.was)
+      c.dofs-start.result c.dofs-start.ensures c.if-marks-j.work w.work-is c.if-marks-j.links w.links-is
+  | else-marks-j w ↦
+      rw (w.links-is, w.work-is)
+      (held_skip c.args.links.now c.args.n c.requires.n_le_link_limit c.told-links (marked c.args.marks.now) c.args.tables.now c.args.work.now c.requires.table_size_in_bounds
+      c.loop-j.j c.loop-j.start c.loop-j.work c.loop-j.links c.loop-j.invariant c.loop-j-test.true w.if-marks-j.false c.dofs-start.result c.dofs-start.ensures)
+]
 
-pub returns : goal.returns
-returns c =
-    let now = c.loop-j in
-    held_all c.args.given c.args.n c.requires.n_le_link_limit c.well_formed.0.1.0.1 (marked c.args.marks) c.args.tables.now c.args.work.now c.requires.table_size_in_bounds
-    now.j now.start now.work now.links now.fine now.invariant (omega arith)
+pub returns-clause-worked : goal.returns-clause-worked
+returns-clause-worked c =
+    let e : c.loop-j.j ≡ c.args.n = omega arith in
+    held_all c.args.links.now c.args.n c.requires.n_le_link_limit c.told-links (marked c.args.marks.now) c.args.tables.now c.args.work.now c.requires.table_size_in_bounds
+    c.loop-j.start c.loop-j.work c.loop-j.links (rw e at c.loop-j.invariant)
