@@ -1,7 +1,7 @@
 -- Edits of an arm, refused or not; a free axis' entry lies within the row. Assumes nothing.
 use Prim.Native.Nat.{ℕ, ◌<◌}
 use mathlib.Core.Path.{◌≡◌}
-use Rattle.std.proofs.Common.{Unit, Result, Ok, Err}
+use Rattle.std.proofs.Common.{Result, Ok, Err}
 use Rattle.std.specs.Result.{IsErrAnd}
 use mathlib.Core.Bool.{true}
 use native.Mathlib.Omega.{arith}

@@ -1,11 +1,8 @@
 pub mod Accepted
 pub mod Agree
 pub mod Edits
-pub mod Handed
 pub mod Live
-pub mod Padded
 pub mod Relinked
 pub mod Shape
 pub mod Sized
 pub mod Theorems
-pub mod Unique

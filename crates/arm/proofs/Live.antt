@@ -21,6 +21,10 @@ use Rattle.arm.specs.Arm.{live_links, links_of, locked_of, parent_of, tag_of, ta
 use Rattle.arm.specs.HandedIn.{root_mask_fits}
 
 -- whatever the arrays are, no more count than fit
+pub links_le : (a : Arm) → length (links_of a) ≤ link_limit
+unfolding links_of
+links_le a = simp length-take (omega arith)
+
 pub masks_le : (a : Arm) → length (masks_of a) ≤ link_limit
 unfolding masks_of links_of
 masks_le a = simp (length-map, length-take) (omega arith)
@@ -94,6 +98,13 @@ start_fewer ms link i e = elim (eq-zero-or-pos (link - length ms)) [
   | inl l ↦ let s : i ≡ link = omega arith in ap (start_of ms) s
   | inr l ↦ start_all ms i (omega arith) ∙ sym (start_all ms link (omega arith))
 ]
+
+-- the start of a link, as the DoFs of the links before it
+pub start_taken : (a : Arm) (link n : ℕ) → n ≡ min link (length (links_of a)) → total_of (map locked_of (take n (links_of a))) ≡ start_at a link
+unfolding start_at start_of masks_of
+start_taken a link n e =
+    ap total_of (sym (map-take locked_of n (links_of a)))
+    ∙ start_fewer (map locked_of (links_of a)) link n (e ∙ ap (min link) (sym (length-map (links_of a) locked_of)))
 
 pub start_none : (a : Arm) → 0 ≡ start_at a 0
 unfolding start_at start_of total_of

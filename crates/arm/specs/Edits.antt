@@ -1,5 +1,5 @@
 -- An edit of an arm, and what the call that makes it answers.
-use Rattle.std.specs.Prelude.{ℕ, zero, suc, ◌+◌, Unit, Result, Ok, Err}
+use Rattle.std.specs.Prelude.{ℕ, zero, suc, ◌+◌, Result, Ok, Err}
 use Rattle.refusal.specs.declared.Refusal.{Refusal}
 use Rattle.refusal.specs.Refusal.{number, code}
 use Rattle.masks.specs.Masks.{dofs_below}

@@ -8,7 +8,7 @@ use Rattle.topology.specs.Parents.{parents_fit}
 use Rattle.planar.specs.Rotation.{is_beyond}
 use Rattle.planar.specs.Poses.{finite_rotation, finite_point, finite_pose}
 use Rattle.multibody_joint.specs.declared.Joint.{Joint}
-use Rattle.multibody_joint.specs.Joint.{coordinate_of}
+use Rattle.multibody_joint.specs.Joint.{coordinate_of, joint_finite}
 use Rattle.arm.specs.declared.Link.{Link}
 use Rattle.arm.specs.declared.Coupling.{Coupling}
 use Rattle.arm.specs.declared.Arm.{Arm}
@@ -71,11 +71,6 @@ abbrev pub masks_and_axes_fit : Arm → Bool
 masks_and_axes_fit a = (every link_masks_fit (links_of a) && root_fits a) && every coupling_axes_fit (couplings_of a)
 
 -- ---- 7: every float is finite
-
--- frames, coordinates, rotation, springs
-unfoldable pub joint_finite : Joint → Bool
-joint_finite j =
-    ((((finite_pose j.frame1 && finite_pose j.frame2) && all_finite j.coordinates) && finite_rotation j.rotation) && all_finite j.stiffness) && all_finite j.rest
 
 -- its joint, its centre of mass, and what is kept of it
 unfoldable pub link_finite : Link → Bool

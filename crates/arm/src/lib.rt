@@ -84,6 +84,7 @@ pub struct Edited {
 
 impl Link {
     // A new link: its pose and shifts are yet to be worked out.
+    #[tactic(auto, unfolding(crate::specs::Setters::unplaced))]
     pub fn unplaced(tag: u32, parent: u8, joint: Joint, centre: Point) -> Link
         ensures { result ≡ unplaced tag parent joint centre }
     {
@@ -100,6 +101,7 @@ impl Link {
     }
 
     // Are its joint's masks at most 7?
+    #[tactic(auto, unfolding(crate::specs::HandedIn::joint_masks_fit))]
     fn masks_fit(&self) -> bool
         ensures { result ≡ joint_masks_fit self.now.joint }
     {
@@ -112,6 +114,7 @@ impl Link {
 impl Finite for Link {
     ghost finite = { link_finite };
 
+    #[tactic(auto, unfolding(crate::specs::HandedIn::link_finite))]
     fn is_finite(&self) -> bool {
         self.joint.is_finite()
             & self.centre.is_finite()
@@ -122,6 +125,7 @@ impl Finite for Link {
 }
 
 // Does the angle coordinate lie within 256 either way? A locked one too.
+#[tactic(auto, unfolding(crate::specs::HandedIn::angle_fits))]
 pub fn angle_fits(j: &Joint) -> bool
     ensures { result ≡ angle_fits j.now }
 {
@@ -131,12 +135,14 @@ pub fn angle_fits(j: &Joint) -> bool
 // ---- A coupling
 
 impl Coupling {
+    #[tactic(auto, unfolding(crate::specs::HandedIn::coupling_links_fit))]
     fn links_fit(&self, n: usize) -> bool
         ensures { result ≡ coupling_links_fit n self.now }
     {
         ((self.link1 as usize) < n) & ((self.link2 as usize) < n)
     }
 
+    #[tactic(auto, unfolding(crate::specs::HandedIn::coupling_axes_fit))]
     fn axes_fit(&self) -> bool
         ensures { result ≡ coupling_axes_fit self.now }
     {
@@ -147,6 +153,7 @@ impl Coupling {
 impl Finite for Coupling {
     ghost finite = { coupling_finite };
 
+    #[tactic(auto, unfolding(crate::specs::HandedIn::coupling_finite))]
     fn is_finite(&self) -> bool {
         self.coefficient.is_finite() & self.offset.is_finite()
     }
@@ -162,14 +169,14 @@ pub fn is_new(tag: u32, others: &[u32]) -> bool
 }
 
 // Does no tag stand twice?
+#[tactic(auto, unfolding(crate::specs::HandedIn::unique))]
 fn all_unique(tags: &[u32]) -> bool
     ensures { result ≡ unique tags.now }
 {
-    let mut ok = true;
-    for i in 0..tags.len() {
-        ok = ok & is_new(tags[i], &tags[i + 1..]);
+    match tags.split_first() {
+        Some((tag, later)) => is_new(*tag, later) & all_unique(later),
+        None => true,
     }
-    ok
 }
 
 // ---- Links that count
@@ -197,6 +204,7 @@ fn total_dofs(links: &[Link]) -> usize
 
 impl Arm {
     // An arm of no links.
+    #[tactic(auto, unfolding(crate::specs::Empty::empty_arm))]
     pub fn empty() -> Arm
         ensures { result ≡ empty_arm }
     {
@@ -222,6 +230,7 @@ impl Arm {
     }
 
     // The links that count: never more than fit.
+    #[tactic(auto, unfolding(crate::specs::Arm::links_of))]
     pub fn live_links(&self) -> &[Link]
         ensures { result.now ≡ links_of self.now }
     {
@@ -229,6 +238,7 @@ impl Arm {
     }
 
     // The couplings that count: never more than fit.
+    #[tactic(auto, unfolding(crate::specs::Arm::couplings_of))]
     pub fn live_couplings(&self) -> &[Coupling]
         ensures { result.now ≡ couplings_of self.now }
     {
@@ -239,17 +249,26 @@ impl Arm {
     pub fn tags(&self) -> [u32; LINKS]
         ensures { result ≡ map tag_of self.now.links }
     {
-        self.links.map(|link| link.tag)
+        let mut tags = [0; LINKS];
+        for (tag, link) in tags.iter_mut().zip(&self.links) {
+            *tag = link.tag;
+        }
+        tags
     }
 
     // The parent of each place for a link, whether it counts or not.
     pub fn parents(&self) -> [u8; LINKS]
         ensures { result ≡ map parent_of self.now.links }
     {
-        self.links.map(|link| link.parent)
+        let mut parents = [0; LINKS];
+        for (parent, link) in parents.iter_mut().zip(&self.links) {
+            *parent = link.parent;
+        }
+        parents
     }
 
     // The locked mask of a link; where there is no such link, all is locked.
+    #[tactic(auto, unfolding(crate::specs::Arm::mask_at, crate::specs::Arm::masks_of))]
     pub fn mask_at(&self, link: usize) -> u8
         ensures { result ≡ mask_at self.now link }
     {
@@ -257,6 +276,7 @@ impl Arm {
     }
 
     // The start of a link: the DoFs of all earlier links.
+    #[tactic(auto, using(crate::proofs::Live::links_le, crate::proofs::Live::start_taken))]
     pub fn start_of(&self, link: usize) -> usize
         ensures { result ≡ start_at self.now link }
     {
@@ -264,6 +284,7 @@ impl Arm {
         total_dofs(&links[..link.min(links.len())])
     }
 
+    #[tactic(auto, using(crate::proofs::Live::links_le), unfolding(crate::specs::Arm::dof_count_of, crate::specs::Arm::masks_of))]
     pub fn dof_count(&self) -> usize
         ensures { result ≡ dof_count_of self.now }
     {
@@ -271,12 +292,14 @@ impl Arm {
     }
 
     // Where in a row the entry of a link's axis stands.
+    #[tactic(auto, unfolding(crate::specs::Edits::dof_at))]
     pub fn dof_at(&self, link: usize, axis: u32) -> usize
         ensures { result ≡ dof_at self.now link axis }
     {
         self.start_of(link) + dofs_below(self.mask_at(link), axis)
     }
 
+    #[tactic(auto, unfolding(crate::specs::Arm::row_in))]
     pub fn row(&self, name: RowName) -> &[f32; DOFS]
         ensures { result.now ≡ row_in self.now name }
     {
@@ -284,6 +307,7 @@ impl Arm {
     }
 
     // Rules 2 to 5, 7 and 9: the lowest that the arm breaks.
+    #[tactic(auto, unfolding(crate::specs::HandedIn::arm_refusal, crate::specs::HandedIn::arm_rules, crate::specs::HandedIn::tags_unique, crate::specs::HandedIn::parents_earlier, crate::specs::HandedIn::root_fits, crate::specs::HandedIn::rows_finite))]
     pub fn refusal(&self) -> Result<(), Refusal>
         ensures { code result ≡ arm_refusal self.now }
     {
