@@ -10,7 +10,7 @@ ghost use Rattle.arm.specs.Arm.{tag_of, parent_of, locked_of, links_of, coupling
 ghost use Rattle.arm.specs.Setters.{unplaced};
 ghost use Rattle.arm.specs.Empty.{empty_arm};
 ghost use Rattle.arm.specs.Edits.{dof_at, edited_as, made_as};
-ghost use Rattle.arm.specs.HandedIn.{is_new, unique, joint_masks_fit, link_finite, angle_fits, coupling_links_fit, coupling_axes_fit, coupling_finite, root_mask_fits, arm_refusal};
+ghost use Rattle.arm.specs.HandedIn.{is_new, unique, joint_masks_fit, link_finite, angle_fits, coupling_links_fit, coupling_axes_fit, coupling_finite, root_mask_fits, tags_unique, parents_earlier, rows_finite, arm_refusal};
 
 use floats::{Finite, all_finite, is_finite_part};
 use limits::{COUPLINGS, DOFS, LINKS};
@@ -249,22 +249,14 @@ impl Arm {
     pub fn tags(&self) -> [u32; LINKS]
         ensures { result ≡ map tag_of self.now.links }
     {
-        let mut tags = [0; LINKS];
-        for (tag, link) in tags.iter_mut().zip(&self.links) {
-            *tag = link.tag;
-        }
-        tags
+        self.links.map(|link| link.tag)
     }
 
     // The parent of each place for a link, whether it counts or not.
     pub fn parents(&self) -> [u8; LINKS]
         ensures { result ≡ map parent_of self.now.links }
     {
-        let mut parents = [0; LINKS];
-        for (parent, link) in parents.iter_mut().zip(&self.links) {
-            *parent = link.parent;
-        }
-        parents
+        self.links.map(|link| link.parent)
     }
 
     // The locked mask of a link; where there is no such link, all is locked.
@@ -306,26 +298,47 @@ impl Arm {
         &self.rows[name.number()].entries
     }
 
+    // Does no tag stand twice?
+    #[tactic(auto, unfolding(crate::specs::HandedIn::tags_unique))]
+    fn tags_unique(&self) -> bool
+        ensures { result ≡ tags_unique self.now }
+    {
+        let tags = self.tags();
+        all_unique(&tags[..self.live_links().len()])
+    }
+
+    // Rule 4 for every parent.
+    #[tactic(auto, unfolding(crate::specs::HandedIn::parents_earlier))]
+    fn parents_earlier(&self) -> bool
+        ensures { result ≡ parents_earlier self.now }
+    {
+        let parents = self.parents();
+        parents_fit(&parents[..self.live_links().len()])
+    }
+
+    // Are the entries of every row finite, up to the DoF count?
+    fn are_finite_rows(&self) -> bool
+        ensures { result ≡ rows_finite self.now }
+    {
+        let n = self.dof_count();
+        self.rows.iter().all(|row| is_finite_part(&row.entries, 0, n))
+    }
+
     // Rules 2 to 5, 7 and 9: the lowest that the arm breaks.
-    #[tactic(auto, unfolding(crate::specs::HandedIn::arm_refusal, crate::specs::HandedIn::arm_rules, crate::specs::HandedIn::tags_unique, crate::specs::HandedIn::parents_earlier, crate::specs::HandedIn::root_fits, crate::specs::HandedIn::rows_finite))]
+    #[tactic(auto, unfolding(crate::specs::HandedIn::arm_refusal, crate::specs::HandedIn::arm_rules, crate::specs::HandedIn::root_fits, crate::specs::Arm::masks_of))]
     pub fn refusal(&self) -> Result<(), Refusal>
         ensures { code result ≡ arm_refusal self.now }
     {
         let links = self.live_links();
         let couplings = self.live_couplings();
-        let tags = self.tags();
-        let parents = self.parents();
-        let n = links.len();
-        let dofs = self.dof_count();
         lowest(&[
             unless(
                 (self.link_count <= LINKS) & (self.coupling_count <= COUPLINGS),
                 Refusal::Limit,
             ),
-            unless(all_unique(&tags[..n]), Refusal::Tag),
+            unless(self.tags_unique(), Refusal::Tag),
             unless(
-                parents_fit(&parents[..n])
-                    & couplings.iter().all(|c| c.links_fit(self.link_count)),
+                self.parents_earlier() & couplings.iter().all(|c| c.links_fit(self.link_count)),
                 Refusal::Link,
             ),
             unless(
@@ -337,7 +350,7 @@ impl Arm {
             unless(
                 links.iter().all(|l| l.is_finite())
                     & couplings.iter().all(|c| c.is_finite())
-                    & self.rows.iter().all(|row| is_finite_part(&row.entries, 0, dofs)),
+                    & self.are_finite_rows(),
                 Refusal::NotFinite,
             ),
             unless(links.iter().all(|l| angle_fits(&l.joint)), Refusal::Beyond),

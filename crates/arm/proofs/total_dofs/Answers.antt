@@ -21,8 +21,7 @@ pub loop-link-preserved : goal.loop-link-preserved
 loop-link-preserved c =
     let k = c.loop-link in
     let ls = c.args.links.now in
-    let there = simp length-map (omega arith) in
-    omega (arith, start_next (map locked_of ls) k.link-index 7 there, ap dofs_of (map_at locked_of ls k.link-index no_link 7 (omega arith)))
+    omega (arith, start_next (map locked_of ls) k.link-index 7 (simp length-map (omega arith)), ap dofs_of (map_at locked_of ls k.link-index no_link 7 (omega arith)))
 
 pub returns : goal.returns
 returns c = c.loop-link.invariant ∙ start_all (map locked_of c.args.links.now) c.loop-link.link-index (simp length-map (omega arith))
