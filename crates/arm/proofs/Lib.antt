@@ -2,7 +2,6 @@ pub mod Accepted
 pub mod Agree
 pub mod Edits
 pub mod Live
-pub mod Mapped
 pub mod Relinked
 pub mod Shape
 pub mod Sized

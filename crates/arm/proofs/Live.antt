@@ -1,7 +1,7 @@
 -- The links that count, in an arm whose arrays have their lengths: as many as the count says, each the array's own. Assumes nothing.
 use Prim.Native.Nat.{ℕ, zero, suc, min, ◌+◌, ◌-◌, ◌≤◌, ◌<◌}
 use mathlib.Core.Path.{◌≡◌, refl, sym, ◌∙◌, ap}
-use mathlib.Core.Bool.{true, ◌||◌}
+use mathlib.Core.Bool.{Bool, true, ◌||◌}
 use mathlib.Core.Logic.{inl, inr}
 use mathlib.Core.List.{List, [], ◌∷◌, map}
 use native.Mathlib.Nat.{eq-zero-or-pos}
@@ -9,6 +9,8 @@ use native.Mathlib.Omega.{arith}
 use lib.Dec.{eqb}
 use lib.ListN.{length, take, get_or, length-take, length-map}
 use lib.Seq.{get_or-take, length-take-le}
+use Rattle.lists.specs.Tests.{every}
+use Rattle.lists.proofs.Every.{every_map}
 use Rattle.lists.proofs.Lists.{map-take, map_at}
 use Rattle.limits.specs.Limits.{link_limit, dof_limit}
 use Rattle.masks.specs.Masks.{dofs_of}
@@ -17,8 +19,11 @@ use Rattle.masks.proofs.Laws.{dofs_le}
 use Rattle.masks.proofs.Totals.{start_next, start_all, start_in, total_le}
 use Rattle.arm.specs.declared.Link.{Link}
 use Rattle.arm.specs.declared.Arm.{Arm}
-use Rattle.arm.specs.Arm.{live_links, links_of, locked_of, parent_of, tag_of, tags_of, parents_of, masks_of, mask_at, start_at, dof_count_of}
-use Rattle.arm.specs.HandedIn.{root_mask_fits}
+use Rattle.arm.specs.declared.Row.{Row}
+use Rattle.floats.specs.Floats.{all_finite}
+use Rattle.arm.specs.Inner.{row_finite}
+use Rattle.arm.specs.Arm.{live_links, links_of, locked_of, parent_of, tag_of, tags_of, parents_of, masks_of, mask_at, start_at, dof_count_of, entries_to, rows_of}
+use Rattle.arm.specs.HandedIn.{root_mask_fits, rows_finite}
 
 -- whatever the arrays are, no more count than fit
 pub links_le : (a : Arm) → length (links_of a) ≤ link_limit
@@ -92,12 +97,27 @@ module _ (a : Arm) (whole : length a.links ≡ link_limit) where
   unfolding parents_of links_of
   parents_front = map-take parent_of (live_links a) a.links
 
+-- what an arm's arrays of tags and parents say of the links that count
+module _ (a : Arm) (whole : length a.links ≡ link_limit) (ls : List Link) (counted : ls ≡ links_of a) where
+  pub tags_counted : (ts : List ℕ) → ts ≡ map tag_of a.links → take (length ls) ts ≡ tags_of a
+  tags_counted ts e = rw (counted, e, links_live a whole) (tags_front a whole)
+
+  pub parents_counted : (ps : List ℕ) → ps ≡ map parent_of a.links → take (length ls) ps ≡ parents_of a
+  parents_counted ps e = rw (counted, e, links_live a whole) (parents_front a whole)
+
 -- past the end of a list of masks, all are counted
 pub start_fewer : (ms : List ℕ) (link i : ℕ) → i ≡ min link (length ms) → start_of ms i ≡ start_of ms link
 start_fewer ms link i e = elim (eq-zero-or-pos (link - length ms)) [
   | inl l ↦ let s : i ≡ link = omega arith in ap (start_of ms) s
   | inr l ↦ start_all ms i (omega arith) ∙ sym (start_all ms link (omega arith))
 ]
+
+-- the rows' test, up to the DoF count
+pub rows_tested : (a : Arm) (n : ℕ) (r : Bool) → n ≡ dof_count_of a → r ≡ every (row_finite n) a.rows → r ≡ rows_finite a
+unfolding rows_finite rows_of row_finite
+rows_tested a n r e h =
+    h ∙ ap (λ (m : ℕ). every (λ (row : Row). all_finite (entries_to m row)) a.rows) e
+    ∙ sym (every_map all_finite (entries_to (dof_count_of a)) a.rows)
 
 -- the start of a link, as the DoFs of the links before it
 pub start_taken : (a : Arm) (link n : ℕ) → n ≡ min link (length (links_of a)) → total_of (map locked_of (take n (links_of a))) ≡ start_at a link

@@ -6,7 +6,7 @@ use Rattle.floats.specs.Floats.{is_finite, all_finite}
 use Rattle.masks.specs.Masks.{is_mask, is_axis}
 use Rattle.topology.specs.Parents.{parents_fit}
 use Rattle.planar.specs.Rotation.{is_beyond}
-use Rattle.planar.specs.Poses.{finite_rotation, finite_point, finite_pose}
+use Rattle.planar.specs.Poses.{finite_point, finite_pose}
 use Rattle.multibody_joint.specs.declared.Joint.{Joint}
 use Rattle.multibody_joint.specs.Joint.{coordinate_of, joint_finite}
 use Rattle.arm.specs.declared.Link.{Link}

@@ -3,6 +3,7 @@
 #![tactic(auto)]
 
 ghost use Rattle.std.specs.Prelude.{◌≡◌, map, ◌≤◌, length};
+ghost use Rattle.lists.specs.Tests.{every};
 ghost use Rattle.limits.specs.Limits.{link_limit};
 ghost use Rattle.masks.specs.Starts.{total_of};
 ghost use Rattle.refusal.specs.Refusal.{code};
@@ -10,9 +11,10 @@ ghost use Rattle.arm.specs.Arm.{tag_of, parent_of, locked_of, links_of, coupling
 ghost use Rattle.arm.specs.Setters.{unplaced};
 ghost use Rattle.arm.specs.Empty.{empty_arm};
 ghost use Rattle.arm.specs.Edits.{dof_at, edited_as, made_as};
-ghost use Rattle.arm.specs.HandedIn.{is_new, unique, joint_masks_fit, link_finite, angle_fits, coupling_links_fit, coupling_axes_fit, coupling_finite, root_mask_fits, tags_unique, parents_earlier, rows_finite, arm_refusal};
+ghost use Rattle.arm.specs.Inner.{row_finite};
+ghost use Rattle.arm.specs.HandedIn.{is_new, unique, joint_masks_fit, link_masks_fit, link_finite, angle_fits, coupling_links_fit, coupling_axes_fit, coupling_finite, root_mask_fits, tags_unique, parents_earlier, link_numbers_fit, masks_and_axes_fit, rows_finite, floats_finite, angles_fit, arm_refusal};
 
-use floats::{Finite, all_finite, is_finite_part};
+use floats::{Finite, is_finite_part};
 use limits::{COUPLINGS, DOFS, LINKS};
 use masks::{dofs, dofs_below, is_axis, is_mask};
 use multibody_joint::{Joint, fixed};
@@ -159,6 +161,32 @@ impl Finite for Coupling {
     }
 }
 
+// ---- Tests of every link, and of every coupling
+
+fn are_finite<T: Finite>(all: &[T]) -> bool
+    ensures { result ≡ every T.finite all.now }
+{
+    all.iter().all(|x| x.is_finite())
+}
+
+fn are_masks_fit(links: &[Link]) -> bool
+    ensures { result ≡ every link_masks_fit links.now }
+{
+    links.iter().all(|l| l.masks_fit())
+}
+
+fn are_links_fit(n: usize, couplings: &[Coupling]) -> bool
+    ensures { result ≡ every (coupling_links_fit n) couplings.now }
+{
+    couplings.iter().all(|c| c.links_fit(n))
+}
+
+fn are_axes_fit(couplings: &[Coupling]) -> bool
+    ensures { result ≡ every coupling_axes_fit couplings.now }
+{
+    couplings.iter().all(|c| c.axes_fit())
+}
+
 // ---- Tags
 
 // Is it none of the others?
@@ -179,13 +207,33 @@ fn all_unique(tags: &[u32]) -> bool
     }
 }
 
+// ---- Rows
+
+impl Row {
+    // Are its first n entries finite?
+    #[tactic(auto, unfolding(crate::specs::Inner::row_finite))]
+    fn is_finite_to(&self, n: usize) -> bool
+        ensures { result ≡ row_finite n self.now }
+    {
+        is_finite_part(&self.entries, 0, n)
+    }
+}
+
+fn are_finite_to(n: usize, rows: &[Row]) -> bool
+    ensures { result ≡ every (row_finite n) rows.now }
+{
+    rows.iter().all(|row| row.is_finite_to(n))
+}
+
 // ---- Links that count
 
 // A root's locked mask is 7 or 0.
 fn root_fits(links: &[Link]) -> bool
     ensures { result ≡ root_mask_fits (map locked_of links.now) }
 {
-    links.first().is_none_or(|root| (root.joint.locked == 7) | (root.joint.locked == 0))
+    links
+        .first()
+        .is_none_or(|root| (root.joint.locked == 7) | (root.joint.locked == 0))
 }
 
 // The sum of their DoFs.
@@ -264,7 +312,9 @@ impl Arm {
     pub fn mask_at(&self, link: usize) -> u8
         ensures { result ≡ mask_at self.now link }
     {
-        self.live_links().get(link).map_or(7, |link| link.joint.locked)
+        self.live_links()
+            .get(link)
+            .map_or(7, |link| link.joint.locked)
     }
 
     // The start of a link: the DoFs of all earlier links.
@@ -298,7 +348,7 @@ impl Arm {
         &self.rows[name.number()].entries
     }
 
-    // Does no tag stand twice?
+    // 3: does no tag stand twice?
     #[tactic(auto, unfolding(crate::specs::HandedIn::tags_unique))]
     fn tags_unique(&self) -> bool
         ensures { result ≡ tags_unique self.now }
@@ -307,7 +357,7 @@ impl Arm {
         all_unique(&tags[..self.live_links().len()])
     }
 
-    // Rule 4 for every parent.
+    // 4: is each parent an earlier link?
     #[tactic(auto, unfolding(crate::specs::HandedIn::parents_earlier))]
     fn parents_earlier(&self) -> bool
         ensures { result ≡ parents_earlier self.now }
@@ -316,45 +366,62 @@ impl Arm {
         parents_fit(&parents[..self.live_links().len()])
     }
 
-    // Are the entries of every row finite, up to the DoF count?
+    // 4: are parents earlier links, and couplings' links below the count?
+    fn link_numbers_fit(&self) -> bool
+        ensures { result ≡ link_numbers_fit self.now }
+    {
+        self.parents_earlier() & are_links_fit(self.link_count, self.live_couplings())
+    }
+
+    // 5: are masks at most 7, the root's locked one 7 or 0, and couplings' axes at most 2?
+    #[tactic(auto, unfolding(crate::specs::HandedIn::root_fits, crate::specs::Arm::masks_of))]
+    fn masks_and_axes_fit(&self) -> bool
+        ensures { result ≡ masks_and_axes_fit self.now }
+    {
+        let links = self.live_links();
+        are_masks_fit(links) & root_fits(links) & are_axes_fit(self.live_couplings())
+    }
+
+    // 7: are the entries of every row finite, up to the DoF count?
+    #[tactic(auto, using(crate::proofs::Live::rows_tested))]
     fn are_finite_rows(&self) -> bool
         ensures { result ≡ rows_finite self.now }
     {
-        let n = self.dof_count();
-        self.rows.iter().all(|row| is_finite_part(&row.entries, 0, n))
+        are_finite_to(self.dof_count(), &self.rows)
+    }
+
+    // 9: does no angle lie beyond 256 either way?
+    fn angles_fit(&self) -> bool
+        ensures { result ≡ angles_fit self.now }
+    {
+        self.live_links().iter().all(|l| angle_fits(&l.joint))
     }
 
     // Rules 2 to 5, 7 and 9: the lowest that the arm breaks.
-    #[tactic(auto, unfolding(crate::specs::HandedIn::arm_refusal, crate::specs::HandedIn::arm_rules, crate::specs::HandedIn::root_fits, crate::specs::Arm::masks_of))]
+    #[tactic(auto, unfolding(crate::specs::HandedIn::arm_refusal, crate::specs::HandedIn::arm_rules))]
     pub fn refusal(&self) -> Result<(), Refusal>
         ensures { code result ≡ arm_refusal self.now }
     {
-        let links = self.live_links();
-        let couplings = self.live_couplings();
         lowest(&[
             unless(
                 (self.link_count <= LINKS) & (self.coupling_count <= COUPLINGS),
                 Refusal::Limit,
             ),
             unless(self.tags_unique(), Refusal::Tag),
-            unless(
-                self.parents_earlier() & couplings.iter().all(|c| c.links_fit(self.link_count)),
-                Refusal::Link,
-            ),
-            unless(
-                links.iter().all(|l| l.masks_fit())
-                    & root_fits(links)
-                    & couplings.iter().all(|c| c.axes_fit()),
-                Refusal::Mask,
-            ),
-            unless(
-                links.iter().all(|l| l.is_finite())
-                    & couplings.iter().all(|c| c.is_finite())
-                    & self.are_finite_rows(),
-                Refusal::NotFinite,
-            ),
-            unless(links.iter().all(|l| angle_fits(&l.joint)), Refusal::Beyond),
+            unless(self.link_numbers_fit(), Refusal::Link),
+            unless(self.masks_and_axes_fit(), Refusal::Mask),
+            unless(self.is_finite(), Refusal::NotFinite),
+            unless(self.angles_fit(), Refusal::Beyond),
         ])
+    }
+}
+
+// Up to its counts.
+impl Finite for Arm {
+    ghost finite = { floats_finite };
+
+    fn is_finite(&self) -> bool {
+        are_finite(self.live_links()) & are_finite(self.live_couplings()) & self.are_finite_rows()
     }
 }
 

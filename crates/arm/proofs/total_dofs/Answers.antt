@@ -1,4 +1,4 @@
-use Rattle.std.proofs.Common.{ℕ, ◌≡◌, ◌∙◌, List, map, get_or, length, refl, ap, arith}
+use Rattle.std.proofs.Common.{◌∙◌, map, get_or, refl, ap, arith}
 use lib.ListN.{length-map}
 use Rattle.lists.proofs.Lists.{map_at}
 use Rattle.masks.specs.Masks.{dofs_of}

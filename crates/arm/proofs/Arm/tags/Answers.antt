@@ -1,9 +1,8 @@
-use Rattle.std.proofs.Common.{rules}
+use Rattle.std.proofs.Common.{rules, arith}
 use Rattle.arm.specs.Arm.{tag_of, no_link}
-use Rattle.arm.proofs.Mapped.{mapped}
-use Rattle.arm.proofs.Shape.{links_length}
+use Rattle.lists.proofs.Mapped.{mapped}
 use Rattle.arm.proofs.Arm.tags.Goals as goal
 
 pub returns : goal.returns
 returns c =
-    mapped _ _ tag_of no_link c.args.self.now.links _ _ (λ x p q y k. search rules) (omega arith) c.map.ensures.items
+    mapped _ tag_of _ (λ x y q k. (search rules, search rules)) c.args.self.now.links _ no_link (omega arith) c.map.ensures.items
