@@ -17,7 +17,7 @@ use stop::stop;
 /// The calls of the library.
 const CALLS: Archive = Archive {
     name: "giellavor",
-    crates: &["plugin", "exports", "exports_views_c", "sizes"],
+    crates: &["plugin", "exports", "exports_views", "sizes"],
 };
 
 /// What the tests of the layouts and `bench/` call, each by the feature of that name.

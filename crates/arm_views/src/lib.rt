@@ -207,3 +207,12 @@ pub fn row_view<'a>(
         Role::Accelerations => &accelerations[start..end],
     })
 }
+
+// Where a link's own part of a lent row stands in it, as C is told; zeros where refused.
+#[repr(C)]
+#[derive(Clone, Copy)]
+pub struct RowPart {
+    pub refusal: u8,
+    pub offset: usize,
+    pub length: usize,
+}

@@ -29,7 +29,7 @@ use arm_split::part;
 use multibody_joint::Spring;
 use one_link_move::{Change, move_link};
 use planar::{Point, Pose, Rotated};
-use refusal::{Counted, answer_count};
+use refusal::Counted;
 use root_change::{Root, change_root};
 use topology::Split;
 
@@ -40,7 +40,7 @@ use topology::Split;
 pub extern "C" fn giellavor_rotate(angle: f32) -> Rotated
     ensures { result ≡ rotated angle }
 {
-    planar::rotate(angle)
+    planar::rotate(angle).into()
 }
 
 // The solve of an n by n matrix, in rows, against a right side; the solution goes into the first n floats of `result`, and n is returned. Refused: 1, 2, 7,
@@ -54,7 +54,7 @@ pub extern "C" fn giellavor_solve(
 ) -> Counted
     ensures { solved result res.new ≡ solved_by n (solve_of n matrix.now right.now res.old) }
 {
-    answer_count(solve::solve(n, matrix, right, res), n)
+    solve::solve(n, matrix, right, res).map(|()| n).into()
 }
 
 // ---- Making an arm
@@ -64,70 +64,78 @@ pub extern "C" fn giellavor_solve(
 pub extern "C" fn giellavor_empty(tables: &mut [f32]) -> Edited
     ensures { out result tables.new ≡ emptied tables.old }
 {
-    full_working::empty(tables)
+    full_working::empty(tables).into()
 }
 
 // A link is added behind the last. Refused: 1 to 5, 7 to 9, 12.
 #[unsafe(no_mangle)]
-pub extern "C" fn giellavor_add_link(arm: Arm, tables: &mut [f32], link: NewLink) -> Edited
+pub extern "C" fn giellavor_add_link(mut arm: Arm, tables: &mut [f32], link: NewLink) -> Edited
     ensures { out result tables.new ≡ link_added arm tables.old link }
 {
-    addition::add_link(arm, tables, link)
+    let answer = addition::add_link(&mut arm, tables, link);
+    Edited::of(arm, answer)
 }
 
 // A coupling is added behind the last. Refused: 2 to 5, 7, 9.
 #[unsafe(no_mangle)]
-pub extern "C" fn giellavor_add_coupling(arm: Arm, coupling: NewCoupling) -> Edited
+pub extern "C" fn giellavor_add_coupling(mut arm: Arm, coupling: NewCoupling) -> Edited
     ensures { result ≡ coupling_added arm coupling }
 {
-    arm_edits::add_coupling(arm, coupling)
+    let answer = arm_edits::add_coupling(&mut arm, coupling);
+    Edited::of(arm, answer)
 }
 
 // ---- Rows: one entry is set, named by link and axis. Refused: 2 to 7, 9.
 
 #[unsafe(no_mangle)]
-pub extern "C" fn giellavor_write_velocity(arm: Arm, link: u32, axis: u32, value: f32) -> Edited
+pub extern "C" fn giellavor_write_velocity(mut arm: Arm, link: u32, axis: u32, value: f32) -> Edited
     ensures { result ≡ row_written arm RowName.Velocities link axis value }
 {
-    write_row(arm, RowName::Velocities, link, axis, value)
+    let answer = write_row(&mut arm, RowName::Velocities, link, axis, value);
+    Edited::of(arm, answer)
 }
 
 #[unsafe(no_mangle)]
-pub extern "C" fn giellavor_write_damping(arm: Arm, link: u32, axis: u32, value: f32) -> Edited
+pub extern "C" fn giellavor_write_damping(mut arm: Arm, link: u32, axis: u32, value: f32) -> Edited
     ensures { result ≡ row_written arm RowName.Damping link axis value }
 {
-    write_row(arm, RowName::Damping, link, axis, value)
+    let answer = write_row(&mut arm, RowName::Damping, link, axis, value);
+    Edited::of(arm, answer)
 }
 
 #[unsafe(no_mangle)]
-pub extern "C" fn giellavor_write_armature(arm: Arm, link: u32, axis: u32, value: f32) -> Edited
+pub extern "C" fn giellavor_write_armature(mut arm: Arm, link: u32, axis: u32, value: f32) -> Edited
     ensures { result ≡ row_written arm RowName.Armature link axis value }
 {
-    write_row(arm, RowName::Armature, link, axis, value)
+    let answer = write_row(&mut arm, RowName::Armature, link, axis, value);
+    Edited::of(arm, answer)
 }
 
 #[unsafe(no_mangle)]
-pub extern "C" fn giellavor_write_friction(arm: Arm, link: u32, axis: u32, value: f32) -> Edited
+pub extern "C" fn giellavor_write_friction(mut arm: Arm, link: u32, axis: u32, value: f32) -> Edited
     ensures { result ≡ row_written arm RowName.Frictions link axis value }
 {
-    write_row(arm, RowName::Frictions, link, axis, value)
+    let answer = write_row(&mut arm, RowName::Frictions, link, axis, value);
+    Edited::of(arm, answer)
 }
 
 #[unsafe(no_mangle)]
-pub extern "C" fn giellavor_write_acceleration(arm: Arm, link: u32, axis: u32, value: f32) -> Edited
+pub extern "C" fn giellavor_write_acceleration(mut arm: Arm, link: u32, axis: u32, value: f32) -> Edited
     ensures { result ≡ row_written arm RowName.Accelerations link axis value }
 {
-    write_row(arm, RowName::Accelerations, link, axis, value)
+    let answer = write_row(&mut arm, RowName::Accelerations, link, axis, value);
+    Edited::of(arm, answer)
 }
 
 // ---- Joints
 
 // The spring of an axis is set, locked or not. Refused: 2 to 5, 7, 9.
 #[unsafe(no_mangle)]
-pub extern "C" fn giellavor_set_spring(arm: Arm, link: u32, axis: u32, spring: Spring) -> Edited
+pub extern "C" fn giellavor_set_spring(mut arm: Arm, link: u32, axis: u32, spring: Spring) -> Edited
     ensures { result ≡ arm_spring_set arm link axis spring }
 {
-    arm_edits::set_spring(arm, link, axis, spring)
+    let answer = arm_edits::set_spring(&mut arm, link, axis, spring);
+    Edited::of(arm, answer)
 }
 
 // ---- Moves: one link's inputs are set, and it and the links below it are worked out
@@ -135,7 +143,7 @@ pub extern "C" fn giellavor_set_spring(arm: Arm, link: u32, axis: u32, spring: S
 // A free coordinate. Refused: 1 to 7, 9, 12.
 #[unsafe(no_mangle)]
 pub extern "C" fn giellavor_move_coordinate(
-    arm: Arm,
+    mut arm: Arm,
     tables: &mut [f32],
     link: u32,
     axis: u32,
@@ -143,13 +151,14 @@ pub extern "C" fn giellavor_move_coordinate(
 ) -> Edited
     ensures { out result tables.new ≡ link_moved arm tables.old link (Coordinate axis value) }
 {
-    move_link(arm, tables, link, Change::Coordinate { axis, value })
+    let answer = move_link(&mut arm, tables, link, Change::Coordinate { axis, value });
+    Edited::of(arm, answer)
 }
 
 // Both frames. Refused: 1 to 5, 7 to 9, 12.
 #[unsafe(no_mangle)]
 pub extern "C" fn giellavor_move_frames(
-    arm: Arm,
+    mut arm: Arm,
     tables: &mut [f32],
     link: u32,
     first: Pose,
@@ -157,54 +166,60 @@ pub extern "C" fn giellavor_move_frames(
 ) -> Edited
     ensures { out result tables.new ≡ link_moved arm tables.old link (Frames first second) }
 {
-    move_link(arm, tables, link, Change::Frames { first, second })
+    let answer = move_link(&mut arm, tables, link, Change::Frames { first, second });
+    Edited::of(arm, answer)
 }
 
 // The centre of mass. Refused: 1 to 5, 7, 9, 12.
 #[unsafe(no_mangle)]
 pub extern "C" fn giellavor_move_centre(
-    arm: Arm,
+    mut arm: Arm,
     tables: &mut [f32],
     link: u32,
     centre: Point,
 ) -> Edited
     ensures { out result tables.new ≡ link_moved arm tables.old link (Centre centre) }
 {
-    move_link(arm, tables, link, Change::Centre(centre))
+    let answer = move_link(&mut arm, tables, link, Change::Centre(centre));
+    Edited::of(arm, answer)
 }
 
 // ---- The whole arm
 
 // Every link is worked out. Refused: 1 to 5, 7, 9, 12.
 #[unsafe(no_mangle)]
-pub extern "C" fn giellavor_full_working(arm: Arm, tables: &mut [f32]) -> Edited
+pub extern "C" fn giellavor_full_working(mut arm: Arm, tables: &mut [f32]) -> Edited
     ensures { out result tables.new ≡ full_working arm tables.old }
 {
-    full_working::full_working(arm, tables)
+    let answer = full_working::full_working(&mut arm, tables);
+    Edited::of(arm, answer)
 }
 
 // Every joint is integrated by dt, then every link is worked out. Refused: 1 to 5, 7, 9, 12.
 #[unsafe(no_mangle)]
-pub extern "C" fn giellavor_step(arm: Arm, tables: &mut [f32], dt: f32) -> Edited
+pub extern "C" fn giellavor_step(mut arm: Arm, tables: &mut [f32], dt: f32) -> Edited
     ensures { out result tables.new ≡ whole_step arm tables.old dt }
 {
-    whole_step::step(arm, tables, dt)
+    let answer = whole_step::step(&mut arm, tables, dt);
+    Edited::of(arm, answer)
 }
 
 // The root is free at a pose. Refused: 1 to 5, 7 to 9, 12.
 #[unsafe(no_mangle)]
-pub extern "C" fn giellavor_free_root(arm: Arm, tables: &mut [f32], pose: Pose) -> Edited
+pub extern "C" fn giellavor_free_root(mut arm: Arm, tables: &mut [f32], pose: Pose) -> Edited
     ensures { out result tables.new ≡ changed_root arm tables.old (Free pose) }
 {
-    change_root(arm, tables, Root::Free(pose))
+    let answer = change_root(&mut arm, tables, Root::Free(pose));
+    Edited::of(arm, answer)
 }
 
 // The root is fixed at a pose. Refused: as above.
 #[unsafe(no_mangle)]
-pub extern "C" fn giellavor_fix_root(arm: Arm, tables: &mut [f32], pose: Pose) -> Edited
+pub extern "C" fn giellavor_fix_root(mut arm: Arm, tables: &mut [f32], pose: Pose) -> Edited
     ensures { out result tables.new ≡ changed_root arm tables.old (Fixed pose) }
 {
-    change_root(arm, tables, Root::Fixed(pose))
+    let answer = change_root(&mut arm, tables, Root::Fixed(pose));
+    Edited::of(arm, answer)
 }
 
 // ---- Parts: each of a split's is an arm, worked out into tables of its own. Refused: 1 to 5, 7, 9, 12.
@@ -219,7 +234,7 @@ pub extern "C" fn giellavor_part_delete(
 ) -> Edited
     ensures { out result tables.new ≡ arm_part arm (Delete link) number tables.old }
 {
-    part(arm, Split::Delete(link as usize), number, tables)
+    part(&arm, Split::Delete(link as usize), number, tables).into()
 }
 
 // Part `number` after a link's joint is cut.
@@ -227,5 +242,5 @@ pub extern "C" fn giellavor_part_delete(
 pub extern "C" fn giellavor_part_cut(arm: Arm, link: u32, number: u32, tables: &mut [f32]) -> Edited
     ensures { out result tables.new ≡ arm_part arm (Cut link) number tables.old }
 {
-    part(arm, Split::Cut(link as usize), number, tables)
+    part(&arm, Split::Cut(link as usize), number, tables).into()
 }

@@ -10,7 +10,7 @@ use Rattle.arm.specs.declared.Arm.{Arm}
 use Rattle.arm.specs.Arm.{mask_at, start_at, own_part}
 use Rattle.arm_views.specs.declared.Role.{Role}
 use Rattle.arm_views.specs.View.{Seen, seen, row_of, view_refusal, view_by, view_answer}
-use Rattle.exports_views.specs.declared.RowPart.{RowPart}
+use Rattle.arm_views.specs.declared.RowPart.{RowPart}
 use Rattle.exports_views.specs.Place.{placed, place_of}
 
 placed_some : (n start m : ℕ) → (n ≡ 0 → ⊥) → ◌≡◌ {A = RowPart} (record { refusal = n; offset = 0; length = 0 }) (placed n start m)

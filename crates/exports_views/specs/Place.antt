@@ -4,7 +4,7 @@ use Rattle.arm.specs.declared.Arm.{Arm}
 use Rattle.arm.specs.Arm.{start_at}
 use Rattle.arm_views.specs.declared.Role.{Role}
 use Rattle.arm_views.specs.View.{view_answer}
-use Rattle.exports_views.specs.declared.RowPart.{RowPart}
+use Rattle.arm_views.specs.declared.RowPart.{RowPart}
 
 -- from a start, as many entries as the part has; refused, the number alone
 unfoldable pub placed : ℕ → ℕ → ℕ → RowPart

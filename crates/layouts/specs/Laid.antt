@@ -11,7 +11,7 @@ use Rattle.arm.specs.declared.Row.{Row}
 use Rattle.arm_edits.specs.declared.NewCoupling.{NewCoupling}
 use Rattle.arm_views.specs.declared.AxesAnswer.{AxesAnswer}
 use Rattle.arm_views.specs.declared.SpringAnswer.{SpringAnswer}
-use Rattle.exports_views.specs.declared.RowPart.{RowPart}
+use Rattle.arm_views.specs.declared.RowPart.{RowPart}
 use Rattle.fill_jacobians.specs.declared.Force.{Force}
 use Rattle.fill_jacobians.specs.declared.Sums.{Sums}
 use Rattle.multibody_joint.specs.declared.Joint.{Joint}

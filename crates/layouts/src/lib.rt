@@ -7,8 +7,7 @@ ghost use Rattle.layouts.specs.Laid.{laid_rotation, laid_point, laid_pose, laid_
 use addition::NewLink;
 use arm::{Arm, Coupling, Edited, Link, Row};
 use arm_edits::NewCoupling;
-use arm_views::{AxesAnswer, SpringAnswer};
-use exports_views::RowPart;
+use arm_views::{AxesAnswer, RowPart, SpringAnswer};
 use fill_jacobians::{Force, Sums};
 use limits::{COUPLINGS, DOFS, LINKS};
 use multibody_joint::{Joint, Spring};

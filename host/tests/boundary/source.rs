@@ -18,7 +18,7 @@ pub type Functions = BTreeMap<String, Signature>;
 pub type Structs = BTreeMap<String, Vec<String>>;
 
 /// The crates whose functions are exported.
-pub const EXPORTING: [&str; 4] = ["plugin", "exports", "exports_views_c", "sizes"];
+pub const EXPORTING: [&str; 4] = ["plugin", "exports", "exports_views", "sizes"];
 
 pub fn host() -> &'static Path {
     Path::new(env!("CARGO_MANIFEST_DIR"))

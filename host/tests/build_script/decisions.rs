@@ -9,7 +9,7 @@ fn what_was_made_is_not_made_again() {
     assert_eq!(repository.run(), JOINED);
     assert_eq!(
         repository.archive(),
-        b"// plugin\n// exports\n// exports_views_c\n// sizes\n"
+        b"// plugin\n// exports\n// exports_views\n// sizes\n"
     );
     assert_eq!(repository.run(), 0);
 }
@@ -71,7 +71,7 @@ fn who_asks_is_told_what_is_proved() {
     };
     run();
     let heard = || fs::read_to_string(repository.path("kit/told")).unwrap();
-    let all = "2 of 6: plugin\n3 of 6: exports\n5 of 6: exports_views_c\n6 of 6: sizes\n";
+    let all = "2 of 6: plugin\n3 of 6: exports\n5 of 6: exports_views\n6 of 6: sizes\n";
     assert_eq!(heard(), all);
     run();
     assert_eq!(heard(), all, "nothing had to be proved");

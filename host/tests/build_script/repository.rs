@@ -7,8 +7,8 @@ use std::path::{Path, PathBuf};
 use std::process::{Command, Output, Stdio};
 use std::sync::OnceLock;
 
-const CRATES: &str = "base:\nplugin staticlib: base\nexports staticlib: base\nexports_views: base\n\
-    exports_views_c staticlib: base exports_views\nsizes staticlib:\nother: base\n";
+const CRATES: &str = "base:\nplugin staticlib: base\nexports staticlib: base\nviews: base\n\
+    exports_views staticlib: base views\nsizes staticlib:\nother: base\n";
 
 /// The crates that the archive of the calls joins.
 pub const JOINED: usize = 4;
