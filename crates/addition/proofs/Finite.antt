@@ -8,7 +8,7 @@ use lib.Dec.{eqb}
 use lib.ListN.{length, take, drop}
 use lib.Seq.{take_at, length-take-le}
 use lib.Ieee.{Float, binary32, of_bits, of_fields, lt}
-use Rattle.multibody_joint.specs.Joint.{zeros, new_joint}
+use Rattle.multibody_joint.specs.Joint.{zeros, new_joint, joint_finite}
 use Rattle.arm.specs.Setters.{unplaced}
 use Rattle.arm.specs.Inner.{row_finite}
 use Rattle.lists.proofs.Every.{every_drop, every_join, every_take}
@@ -20,7 +20,7 @@ use Rattle.masks.specs.Masks.{is_free, damping_of, damping_below, damping_row}
 use Rattle.planar.specs.Rotation.{is_beyond}
 use Rattle.planar.specs.Poses.{rotation_of, translation_of, identity_pose, finite_rotation, finite_point, finite_pose, origin}
 use Rattle.arm.specs.declared.Row.{Row}
-use Rattle.arm.specs.HandedIn.{joint_finite, link_finite, angle_fits, link_angle_fits}
+use Rattle.arm.specs.HandedIn.{link_finite, angle_fits, link_angle_fits}
 use Rattle.addition.specs.declared.NewLink.{NewLink}
 use Rattle.addition.specs.NewLink.{link_of, entries_set}
 use Rattle.addition.specs.Addition.{floats_finite}

@@ -16,9 +16,9 @@ use Rattle.planar.specs.Rotation.{rotation_at, is_beyond}
 use Rattle.planar.specs.declared.Point.{Point}
 use Rattle.planar.specs.Poses.{finite_rotation, finite_point, finite_pose}
 use Rattle.multibody_joint.specs.declared.Joint.{Joint}
-use Rattle.multibody_joint.specs.Joint.{with_motion, with_frames}
+use Rattle.multibody_joint.specs.Joint.{with_motion, with_frames, joint_finite}
 use Rattle.arm.specs.declared.Link.{Link}
-use Rattle.arm.specs.HandedIn.{joint_masks_fit, link_masks_fit, joint_finite, link_finite, angle_fits, link_angle_fits}
+use Rattle.arm.specs.HandedIn.{joint_masks_fit, link_masks_fit, link_finite, angle_fits, link_angle_fits}
 use Rattle.kinematics.specs.Link.{Kept}
 use Rattle.one_link_move.specs.declared.Change.{Change}
 use Rattle.one_link_move.specs.declared.Change.TheVariants.{Coordinate, Frames, Centre}

@@ -30,12 +30,12 @@ use Rattle.planar.specs.declared.Pose.{Pose}
 use Rattle.planar.specs.Rotation.{is_beyond}
 use Rattle.planar.specs.Poses.{rotation_of, translation_of, is_turn, finite_rotation, finite_point, finite_pose}
 use Rattle.multibody_joint.specs.declared.Joint.{Joint}
-use Rattle.multibody_joint.specs.Joint.{free_joint, fixed_joint, free_pos_set, with_frames, new_joint}
+use Rattle.multibody_joint.specs.Joint.{free_joint, fixed_joint, free_pos_set, with_frames, new_joint, joint_finite}
 use Rattle.arm.specs.declared.Link.{Link}
 use Rattle.arm.specs.declared.Row.{Row}
 use Rattle.arm.specs.declared.Arm.{Arm}
 use Rattle.arm.specs.Arm.{live_links, links_of, couplings_of, tag_of, parent_of, locked_of, masks_of, dof_count_of, entries_to, rows_of, link_at, no_link}
-use Rattle.arm.specs.HandedIn.{joint_masks_fit, link_masks_fit, root_mask_fits, root_fits, joint_finite, link_finite, rows_finite, angle_fits, link_angle_fits, angles_fit, arm_refusal}
+use Rattle.arm.specs.HandedIn.{joint_masks_fit, link_masks_fit, root_mask_fits, root_fits, link_finite, rows_finite, angle_fits, link_angle_fits, angles_fit, arm_refusal}
 use Rattle.arm.proofs.Live.{dof_count_le}
 use Rattle.full_working.specs.Outcome.{tables_fit}
 use Rattle.full_working.proofs.Again.{call_settles, call_keeps, call_joint}

@@ -24,7 +24,8 @@ use Rattle.multibody_joint.specs.Motion.{integrated}
 use Rattle.arm.specs.declared.Link.{Link}
 use Rattle.arm.specs.declared.Arm.{Arm}
 use Rattle.arm.specs.Arm.{live_links, no_link, link_at}
-use Rattle.arm.specs.HandedIn.{joint_finite, link_finite, angles_fit, arm_refusal}
+use Rattle.multibody_joint.specs.Joint.{joint_finite}
+use Rattle.arm.specs.HandedIn.{link_finite, angles_fit, arm_refusal}
 use Rattle.full_working.specs.Outcome.{tables_fit}
 use Rattle.full_working.proofs.Again.{call_settles, call_keeps, call_joint}
 use Rattle.whole_step.specs.Step.{link_integrated, link_after, links_after, velocities_of, arm_after, link_joint_finite, joints_finite, step_refusal, whole_step}

@@ -10,7 +10,8 @@ use Rattle.arm.specs.declared.Link.{Link}
 use Rattle.arm.specs.declared.RowName.TheVariants.{Velocities}
 use Rattle.arm.specs.declared.Arm.{Arm}
 use Rattle.arm.specs.Arm.{live_links, links_of, start_at, row_number, link_at}
-use Rattle.arm.specs.HandedIn.{joint_finite, angles_fit, arm_refusal}
+use Rattle.multibody_joint.specs.Joint.{joint_finite}
+use Rattle.arm.specs.HandedIn.{angles_fit, arm_refusal}
 use Rattle.full_working.specs.Outcome.{Outcome, unless_refused, tables_fit, worked_all}
 
 -- ---- every joint integrated
