@@ -13,9 +13,9 @@ use Rattle.lists.specs.Tests.{every}
 use Rattle.lists.proofs.Every.{every_map}
 use Rattle.lists.proofs.Lists.{map-take, map_at}
 use Rattle.limits.specs.Limits.{link_limit, dof_limit}
-use Rattle.masks.specs.Masks.{dofs_of}
+use Rattle.masks.specs.Masks.{dofs_of, dofs_below}
 use Rattle.masks.specs.Starts.{total_of, start_of}
-use Rattle.masks.proofs.Laws.{dofs_le}
+use Rattle.masks.proofs.Laws.{below-le, dofs_le}
 use Rattle.masks.proofs.Totals.{start_next, start_all, start_in, total_le}
 use Rattle.arm.specs.declared.Link.{Link}
 use Rattle.arm.specs.declared.Arm.{Arm}
@@ -140,6 +140,9 @@ within (m ∷ ms) (suc i) = omega (arith, within ms i)
 pub start_within : (a : Arm) (i : ℕ) → start_at a i ≤ dof_count_of a
 unfolding start_at dof_count_of
 start_within a i = within (masks_of a) i
+
+pub below_three : (mask axis : ℕ) → dofs_below mask axis ≤ 3
+below_three mask axis = omega (arith, below-le mask axis, dofs_le mask)
 
 pub dofs_small : (mask r : ℕ) → r ≡ dofs_of mask → r ≤ 3
 dofs_small mask r e = omega (arith, dofs_le mask)

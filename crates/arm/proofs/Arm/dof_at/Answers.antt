@@ -1,10 +1,8 @@
 use Rattle.std.proofs.Common.{arith}
-use Rattle.masks.proofs.Laws.{below-le, dofs_le}
-use Rattle.arm.proofs.Live.{start_within, dof_count_le}
+use Rattle.arm.proofs.Live.{start_within, dof_count_le, below_three}
 use Rattle.arm.proofs.Arm.dof_at.Goals as goal
 
 pub overflow_add-result : goal.overflow_add-result
 overflow_add-result c =
     let a = c.args.self.now in
-    let mask = c.mask_at.result in
-    omega (arith, start_within a c.args.link, dof_count_le a, below-le mask c.args.axis, dofs_le mask)
+    omega (arith, start_within a c.args.link, dof_count_le a, below_three)
