@@ -13,10 +13,13 @@ use Rattle.arm.specs.declared.Link.{Link}
 use Rattle.arm.specs.declared.Arm.{Arm}
 use Rattle.arm.specs.Arm.{live_links, links_of}
 use Rattle.arm.proofs.Live.{links_live}
-use Rattle.arm_views.specs.declared.SpringAnswer.{SpringAnswer}
-use Rattle.arm_views.specs.declared.AxesAnswer.{AxesAnswer}
-use Rattle.multibody_joint.specs.Joint.{zeros}
-use Rattle.arm_views.specs.Links.{of_link, no_spring, spring_by, axes_by}
+use Rattle.std.proofs.Common.{Result, Ok, Err}
+use Rattle.std.specs.Result.{IsErrAnd}
+use Rattle.refusal.specs.declared.Refusal.{Refusal}
+use Rattle.refusal.specs.Refusal.{code}
+use Rattle.refusal.proofs.Answers.{passed, refused}
+use Rattle.refusal.proofs.Number.{number-suc}
+use Rattle.arm_views.specs.Links.{of_link, spring_as, spring_by, axes_as, axes_by}
 
 -- ---- what is read of a link that counts
 
@@ -27,18 +30,22 @@ of_link_lem f e a link d w h =
     ap f (sym (get_or-take (live_links a) a.links link d h))
     ∙ sym (map_at f (take (live_links a) a.links) link d e (omega (arith, links_live a w)))
 
-pub spring_none : (n k : ℕ) (s q : Spring) → n ≡ k → n ≡ 0 → q ≡ s → ◌≡◌ {A = SpringAnswer} (record { refusal = 0; spring = q }) (spring_by k s)
-spring_none n zero s q p h e = rw e
-spring_none n (suc k) s q p h e = absurd (omega arith)
+-- ---- a spring
 
-pub spring_some : (n k : ℕ) (s : Spring) → n ≡ k → (n ≡ 0 → ⊥) → ◌≡◌ {A = SpringAnswer} (record { refusal = n; spring = no_spring }) (spring_by k s)
-spring_some n zero s p h = absurd (h p)
-spring_some n (suc k) s p h = rw p
+pub spring_passed : {A : Type 0} {t : Result A Refusal} {x : A} {k : ℕ} → t ≡ Ok x → code t ≡ k → (s q : Spring) → q ≡ s → spring_as (Ok q) ≡ spring_by k s
+spring_passed p e s q h = rw (passed p e, h)
 
-pub axes_none : (n k : ℕ) (x q : List Float) → n ≡ k → n ≡ 0 → q ≡ x → ◌≡◌ {A = AxesAnswer} (record { refusal = 0; axes = q }) (axes_by k x)
-axes_none n zero x q p h e = rw e
-axes_none n (suc k) x q p h e = absurd (omega arith)
+pub spring_exit : {A : Type 0} {t : Result A Refusal} {e : Refusal} {k : ℕ} → t ≡ Err e → code t ≡ k → (s : Spring) (r : Result Spring Refusal)
+    → IsErrAnd r (λ y. y ≡ e) → spring_as r ≡ spring_by k s
+spring_exit p h s (Ok x) q = absurd q
+spring_exit p h s (Err y) q = rw (q, refused p h, number-suc _)
 
-pub axes_some : (n k : ℕ) (x : List Float) → n ≡ k → (n ≡ 0 → ⊥) → ◌≡◌ {A = AxesAnswer} (record { refusal = n; axes = zeros }) (axes_by k x)
-axes_some n zero x p h = absurd (h p)
-axes_some n (suc k) x p h = rw p
+-- ---- an entry for each axis
+
+pub axes_passed : {A : Type 0} {t : Result A Refusal} {x : A} {k : ℕ} → t ≡ Ok x → code t ≡ k → (xs ys : List Float) → ys ≡ xs → axes_as (Ok ys) ≡ axes_by k xs
+axes_passed p e xs ys h = rw (passed p e, h)
+
+pub axes_exit : {A : Type 0} {t : Result A Refusal} {e : Refusal} {k : ℕ} → t ≡ Err e → code t ≡ k → (xs : List Float) (r : Result (List Float) Refusal)
+    → IsErrAnd r (λ y. y ≡ e) → axes_as r ≡ axes_by k xs
+axes_exit p h xs (Ok x) q = absurd q
+axes_exit p h xs (Err y) q = rw (q, refused p h, number-suc _)

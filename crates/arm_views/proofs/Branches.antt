@@ -9,7 +9,6 @@ use borrow.Author.Tests.{le-leb, ltb-true, lt-ltb}
 use lib.Dec.{leb}
 use lib.ListN.{length}
 use Rattle.refusal.proofs.Laws.{is_lowest, holds_in}
-use Rattle.refusal.proofs.Answers.{counted_some, filled_some}
 use Rattle.refusal.specs.Counted.{filled, out}
 use Rattle.limits.specs.Limits.{link_limit}
 use Rattle.refusal.specs.Refusal.{lower_of}
@@ -36,19 +35,11 @@ pub arm_needed : (a : Arm) (link n : ℕ) (ps : List ℕ) → n ≡ length (bran
 unfolding branch_needed
 arm_needed a link n ps e p = e ∙ ap (λ (l : List ℕ). length (branch l link)) p
 
-pub branch_refused : (n : ℕ) (a : Arm) (link : ℕ) (m : List ℕ) → n ≡ branch_refusal a link (length m) → (n ≡ 0 → ⊥)
-    → out (record { refusal = n; count = 0 }) m ≡ arm_branch a link m
-unfolding arm_branch
-branch_refused n a link m p h =
-    let b = branch (parents_of a) link in
-    rw (← p) (filled_some n (length b) 0 b m (record { refusal = n; count = 0 }) h (counted_some n 0 h))
-
 -- an accepted call is accepted for the bare parents
-pub branch_accepted : (n : ℕ) (a : Arm) (link : ℕ) (ps m : List ℕ) → length a.links ≡ link_limit → n ≡ branch_refusal a link (length m) → n ≡ 0
+pub branch_accepted : (a : Arm) (link : ℕ) (ps m : List ℕ) → length a.links ≡ link_limit → branch_refusal a link (length m) ≡ 0
     → ps ≡ parents_of a → branch_answer ps link m ≡ arm_branch a link m
 unfolding arm_branch branch_answer branch_refusal branch_needed parents_earlier
-branch_accepted n a link ps m w p z q =
-    let e = sym p ∙ z in
+branch_accepted a link ps m w e q =
     let b = branch (parents_of a) link in
     let ks = branch_entries a link (length m) in
     let arm = (is_lowest ks).none e (arm_refusal a) (inr (inr (inl refl))) in

@@ -18,8 +18,13 @@ use Rattle.arm.specs.Arm.{is_link, mask_at, start_at, dof_count_of, own_part}
 use Rattle.arm.specs.HandedIn.{arm_refusal}
 use Rattle.arm.proofs.Accepted.{counts_accepted}
 use Rattle.arm.proofs.Live.{part_within, dof_count_le}
-use Rattle.arm_views.specs.declared.Role.{Role}
-use Rattle.arm_views.specs.View.{seen, row_of, view_entries, view_refusal, view_by, view_answer}
+use Rattle.std.proofs.Common.{Result, Ok, Err, Bor}
+use Rattle.std.specs.Result.{IsErrAnd}
+use Rattle.refusal.specs.declared.Refusal.{Refusal}
+use Rattle.refusal.specs.Refusal.{code}
+use Rattle.refusal.proofs.Answers.{passed, refused}
+use Rattle.refusal.proofs.Number.{number-suc}
+use Rattle.arm_views.specs.View.{seen_as, view_entries, view_refusal, view_by}
 
 -- the part's end lies within both rows
 pub record Within (a : Arm) (link v w : ℕ) : Type 0 where
@@ -40,15 +45,16 @@ view_within a link v w l e =
     let h₂ = leb-true (dof_count_of a) w both.1 in
     record { fits = omega (arith, dof_count_le a); first = omega arith; second = omega arith }
 
-pub seen_some : (n k : ℕ) (part : List Float) → n ≡ k → (n ≡ 0 → ⊥) → seen [] n ≡ view_by k part
+pub seen_passed : {A : Type 0} {t : Result A Refusal} {x : A} {k : ℕ} → t ≡ Ok x → code t ≡ k → (part : List Float) (b : Bor (List Float))
+    → b.now ≡ part → seen_as (Ok b) ≡ view_by k part
 unfolding view_by
-seen_some n zero part p h = absurd (h p)
-seen_some n (suc k) part p h = rw p
+seen_passed p e part b h = rw (passed p e, h)
 
-pub seen_none : (n k : ℕ) (x part : List Float) → n ≡ k → n ≡ 0 → x ≡ part → seen x n ≡ view_by k part
+pub seen_exit : {A : Type 0} {t : Result A Refusal} {e : Refusal} {k : ℕ} → t ≡ Err e → code t ≡ k → (part : List Float) (r : Result (Bor (List Float)) Refusal)
+    → IsErrAnd r (λ y. y ≡ e) → seen_as r ≡ view_by k part
 unfolding view_by
-seen_none n zero x part p h e = rw (p, e)
-seen_none n (suc k) x part p h e = absurd (omega arith)
+seen_exit p h part (Ok b) q = absurd q
+seen_exit p h part (Err y) q = rw (q, refused p h, number-suc _)
 
 -- the part, as it is cut out
 pub own_part_lem : (a : Arm) (link : ℕ) (row : List Float) (s d m : ℕ) → s ≡ start_at a link → d ≡ dofs_of m → m ≡ mask_at a link
@@ -62,10 +68,3 @@ own_part_lem a link row s d m p q r =
 pub end_at : (a : Arm) (link : ℕ) (s d m : ℕ) → s ≡ start_at a link → d ≡ dofs_of m → m ≡ mask_at a link → s + d ≡ start_at a link + dofs_of (mask_at a link)
 end_at a link s d m p q r = rw (p, q, r)
 
--- an accepted view
-pub view_done : (n : ℕ) (a : Arm) (role : Role) (link : ℕ) (v w row : List Float) (s d m : ℕ) → n ≡ view_refusal a link (length v) (length w) → n ≡ 0
-    → s ≡ start_at a link → d ≡ dofs_of m → m ≡ mask_at a link → row ≡ row_of role v w
-    → seen (take ((s + d) - s) (drop s row)) n ≡ view_answer a role link v w
-unfolding view_answer
-view_done n a role link v w row s d m p z q₁ q₂ q₃ r =
-    seen_none n _ _ _ p z (own_part_lem a link row s d m q₁ q₂ q₃ ∙ ap (own_part a link) r)
