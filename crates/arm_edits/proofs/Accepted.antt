@@ -8,15 +8,22 @@ use native.Mathlib.Omega.{arith}
 use borrow.Author.Tests.{leb-true, ltb-true}
 use lib.Dec.{ltb}
 use lib.Ieee.{Float}
+use lib.ListN.{length}
+use Rattle.std.proofs.Common.{Result, Ok}
+use Rattle.refusal.specs.declared.Refusal.{Refusal}
+use Rattle.refusal.specs.Refusal.{code}
+use Rattle.refusal.proofs.Answers.{passed}
 use Rattle.refusal.proofs.Laws.{is_lowest, holds_in}
 use Rattle.lists.proofs.Bools.{both_hold}
-use Rattle.limits.specs.Limits.{link_limit, coupling_limit}
+use Rattle.limits.specs.Limits.{link_limit, coupling_limit, dof_limit}
 use Rattle.masks.specs.Masks.{is_axis, is_free}
 use Rattle.multibody_joint.specs.declared.Spring.{Spring}
 use Rattle.arm.specs.declared.Arm.{Arm}
 use Rattle.arm.specs.Arm.{is_link, mask_at}
 use Rattle.arm.specs.HandedIn.{arm_refusal}
-use Rattle.arm.proofs.Accepted.{counts_accepted, Link-there, there}
+use Rattle.arm.specs.Edits.{dof_at}
+use Rattle.arm.proofs.Accepted.{counts_accepted, Link-there, there, live}
+use Rattle.arm.proofs.Edits.{dof_in_row}
 use Rattle.arm_edits.specs.declared.NewCoupling.{NewCoupling}
 use Rattle.arm_edits.specs.Rows.{write_entries, write_refusal}
 use Rattle.arm_edits.specs.Springs.{spring_entries, spring_refusal}
@@ -65,3 +72,17 @@ coupling_fits a c e =
       axis_first = leb-true c.axis1 2 x.0;
       axis_second = leb-true c.axis2 2 x.1;
     }
+
+-- ---- what a call knows once its tests passed
+
+module _ {A : Type 0} {t : Result A Refusal} {x : A} (a : Arm) (passes : t ≡ Ok x) where
+  pub coupling_passed : (c : NewCoupling) → code t ≡ coupling_refusal a c → Coupling-fits a c
+  coupling_passed c e = coupling_fits a c (passed passes e)
+
+  pub spring_passed : (link axis : ℕ) (s : Spring) → code t ≡ spring_refusal a link axis s → link < link_limit
+  spring_passed link axis s e = let l = live a link (set_spring_there a link axis s (passed passes e)) in omega arith
+
+  pub write_passed : (link axis : ℕ) (value : Float) → length a.links ≡ link_limit → code t ≡ write_refusal a link axis value → dof_at a link axis < dof_limit
+  write_passed link axis value w e =
+      let k = passed passes e in
+      dof_in_row a link axis w (live a link (write_there a link axis value k)) (write_free a link axis value k)

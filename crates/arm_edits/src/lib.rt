@@ -32,7 +32,14 @@ fn write_refusal(arm: &Arm, link: u32, axis: u32, value: f32) -> Result<(), Refu
 }
 
 // Sets one entry of a row, named by link and axis.
-pub fn write_row(arm: &mut Arm, name: RowName, link: u32, axis: u32, value: f32) -> Result<(), Refusal>
+#[tactic(auto, using(arm::proofs::Edits::edited_exit, crate::proofs::Accepted::write_passed), unfolding(crate::specs::Rows::row_written))]
+pub fn write_row(
+    arm: &mut Arm,
+    name: RowName,
+    link: u32,
+    axis: u32,
+    value: f32,
+) -> Result<(), Refusal>
     ensures { edited_as arm.new result ≡ row_written arm.old name link axis value }
 {
     write_refusal(arm, link, axis, value)?;
@@ -56,6 +63,7 @@ fn spring_refusal(arm: &Arm, link: u32, axis: u32, spring: Spring) -> Result<(),
 }
 
 // Sets the spring of an axis of a link's joint, locked or not.
+#[tactic(auto, using(arm::proofs::Edits::edited_exit, crate::proofs::Accepted::spring_passed), unfolding(crate::specs::Springs::arm_spring_set))]
 pub fn set_spring(arm: &mut Arm, link: u32, axis: u32, spring: Spring) -> Result<(), Refusal>
     ensures { edited_as arm.new result ≡ arm_spring_set arm.old link axis spring }
 {
@@ -86,14 +94,21 @@ fn coupling_refusal(arm: &Arm, c: NewCoupling) -> Result<(), Refusal>
     let n = arm.link_count;
     lowest(&[
         unless(arm.coupling_count < COUPLINGS, Refusal::Limit),
-        unless(((c.link1 as usize) < n) & ((c.link2 as usize) < n), Refusal::Link),
+        unless(
+            ((c.link1 as usize) < n) & ((c.link2 as usize) < n),
+            Refusal::Link,
+        ),
         unless(is_axis(c.axis1) & is_axis(c.axis2), Refusal::Mask),
-        unless(c.coefficient.is_finite() & c.offset.is_finite(), Refusal::NotFinite),
+        unless(
+            c.coefficient.is_finite() & c.offset.is_finite(),
+            Refusal::NotFinite,
+        ),
         arm.refusal(),
     ])
 }
 
 // Adds a coupling at the end of the list. A locked axis may be coupled.
+#[tactic(auto, using(arm::proofs::Edits::edited_exit, arm::proofs::Edits::edited_passed, crate::proofs::Accepted::coupling_passed), unfolding(crate::specs::Couplings::coupling_added, crate::specs::Couplings::with_coupling))]
 pub fn add_coupling(arm: &mut Arm, c: NewCoupling) -> Result<(), Refusal>
     ensures { edited_as arm.new result ≡ coupling_added arm.old c }
 {
