@@ -3,7 +3,7 @@ use mathlib.Core.Path.{◌≡◌, sym, ap, ◌∙◌}
 use mathlib.Core.Bool.{Bool, true, ◌&&◌}
 use mathlib.Core.List.{List, [], ◌∷◌, ◌++◌}
 use Prim.Native.Nat.{ℕ, ◌*◌, ◌≤◌}
-use borrow.Author.Tests.{leb-true, ne_eqb}
+use borrow.Author.Tests.{le-leb, leb-true, ne_eqb}
 use lib.Dec.{leb}
 use lib.ListN.{length, take, drop}
 use lib.Seq.{length-take-le}
@@ -13,7 +13,7 @@ use Rattle.std.specs.Result.{IsErrAnd}
 use Rattle.lists.proofs.Bools.{both_hold}
 use Rattle.limits.specs.Limits.{dof_limit}
 use Rattle.refusal.specs.declared.Refusal.{Refusal}
-use Rattle.refusal.specs.Refusal.{number, code, unless_of}
+use Rattle.refusal.specs.Refusal.{number, code, lower_of, unless_of}
 use Rattle.refusal.proofs.Answers.{code_exit, refused}
 use Rattle.refusal.proofs.Laws.{first_holds, rest_accepted}
 use Rattle.refusal.proofs.Number.{number_positive}
@@ -26,6 +26,10 @@ unfolding room_refusal
 room_accepted n room e =
     let large = unless_of (leb n dof_limit) 2 in
     (first_holds room 0 (large ∷ []) e, leb-true n dof_limit (first_holds (leb n dof_limit) 1 [] (rest_accepted (unless_of room 1) (large ∷ []) e)))
+
+pub room_none : (n : ℕ) → n ≤ dof_limit → room_refusal n true ≡ 0
+unfolding room_refusal lower_of
+room_none n h = rw (le-leb n dof_limit h)
 
 module _ (n : ℕ) (a : List Float) (s : List ℕ) where
   abbrev room : Bool

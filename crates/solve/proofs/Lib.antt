@@ -1,6 +1,6 @@
 pub mod Substitution
 pub mod Sticky
-pub mod Answers
 pub mod Solved
 pub mod Every
 pub mod Nothing
+pub mod Answers

@@ -3,13 +3,14 @@ use mathlib.Core.Path.{◌≡◌, refl, sym, ap, ◌∙◌}
 use mathlib.Core.List.{List, [], ◌∷◌}
 use Prim.Native.Nat.{ℕ, zero, suc, ◌+◌, ◌-◌, ◌*◌, ◌<◌, ◌≤◌}
 use native.Mathlib.Numerals.{add-one}
-use native.Mathlib.Nat.{sub-zero, mul-le-mul_right}
+use native.Mathlib.Nat.{sub-zero}
 use native.Mathlib.Omega.{arith}
-use lib.ListN.{length, take, drop, get_or, set, drop_of_length-le, length-drop}
-use lib.Seq.{drop-cons, drop-drop, take-nil, take-take, take_all, length-take-le}
+use lib.ListN.{length, take, drop, get_or, set, drop_of_length-le}
+use lib.Seq.{drop-cons, drop-drop, take-nil, take-take}
 use lib.Ieee.{Float, nan, binary32, div}
+use Rattle.std.specs.List.{fold, zip}
 use Rattle.elimination.specs.Elimination.{row, entry, less}
-use Rattle.elimination.proofs.Rows.{next}
+use Rattle.lists.proofs.Lists.{tail}
 use Rattle.solve.specs.Solve.{exchanged, permuted, less_products, forward, backward}
 
 -- ---- the swaps
@@ -25,12 +26,14 @@ module _ (k : ℕ) (s : List ℕ) (x : List Float) where
 
 -- ---- the products
 
-module _ (r x : List Float) (j : ℕ) (v : Float) where
-  pub products_more : j < length r → j < length x → less_products v (drop j r) (drop j x) ≡ less_products (less (get_or r j nan) v (get_or x j nan)) (drop (j + 1) r) (drop (j + 1) x)
-  products_more h g = rw (drop-cons r j nan, drop-cons x j nan, add-one)
+-- v less the product of a pair
+abbrev pub less_product : Float → Float × Float → Float
+less_product v p = less p.0 v p.1
 
-  pub products_end : length r ≤ j → less_products v (drop j r) (drop j x) ≡ v
-  products_end h = rw (drop_of_length-le r h)
+pub fold_products : (v : Float) (rs xs : List Float) → fold less_product v (zip rs xs) ≡ less_products v rs xs
+fold_products v [] xs = refl
+fold_products v (a ∷ rs) [] = refl
+fold_products v (a ∷ rs) (x ∷ xs) = fold_products (less a v x) rs xs
 
 -- ---- forward
 
@@ -48,20 +51,12 @@ module _ (n : ℕ) (a : List Float) (i : ℕ) (x : List Float) where
       rw (g, add-one)
 
   -- v is what the code's parts give
-  pub forward_more : (at : ℕ) (v : Float) → i < n → at ≡ i * n → v ≡ less_products (get_or x i nan) (take ((at + i) - at) (drop at a)) (take (i - 0) x)
+  pub forward_more : (v : Float) → i < n → v ≡ less_products (get_or x i nan) (take ((i * n + i) - i * n) (drop (i * n) a)) (take i x)
       → forward n a (n - i) i x ≡ forward n a (n - (i + 1)) (i + 1) (set x i v)
-  forward_more at v h ea ev =
-      let e : (at + i) - at ≡ i = omega arith in
-      let f : i - 0 ≡ i = omega arith in
+  forward_more v h ev =
+      let e : (i * n + i) - i * n ≡ i = omega arith in
       let t : take i (row n i a) ≡ take i (drop (i * n) a) = take-take i n (drop (i * n) a) (omega arith) in
-      forward_suc h ∙ rw (ev, e, f, ea, t)
-
--- the code's parts of a row and of x are as long
-pub same_parts : {A B : Type 0} (m i k j : ℕ) (a : List A) (x : List B) → i + m ≤ length a → j + k ≤ length x → m ≡ k → length (take m (drop i a)) ≡ length (take k (drop j x))
-same_parts m i k j a x h g e = long m i a h ∙ e ∙ sym (long k j x g)
-  where
-    long : {A : Type 0} (m i : ℕ) (a : List A) → i + m ≤ length a → length (take m (drop i a)) ≡ m
-    long m i a h = length-take-le m (drop i a) (rw length-drop (omega arith))
+      forward_suc h ∙ rw (ev, e, t)
 
 -- ---- back
 
@@ -75,23 +70,6 @@ drop-take (suc m) (suc k) (x ∷ xs) =
     let e : suc k - suc m ≡ k - m = omega arith in
     rw e (drop-take m k xs)
 
--- the row that ends at i · n
-pub row_end : {i n : ℕ} → 0 < i → i ≤ n → (n ≤ i * n) × (i * n ≤ n * n)
-row_end {i} {n} h g = (omega (arith, mul-le-mul_right n h), mul-le-mul_right n g)
-
--- so in the room of the factors
-pub row_within : {i n end room : ℕ} → 0 < i → i ≤ n → end ≡ i * n → room ≡ n * n → (n ≤ end) × (end ≤ room)
-row_within h g e f =
-    let w = row_end h g in
-    (omega arith, omega arith)
-
--- the row before it ends n earlier
-pub row_before : (i n end : ℕ) → 0 < i → end ≡ i * n → end - n ≡ (i - 1) * n
-row_before i n end h e =
-    let m : i ≡ (i - 1) + 1 = omega arith in
-    let q : i * n ≡ (i - 1) * n + n = ap (λ (j : ℕ). j * n) m ∙ next (i - 1) n in
-    omega arith
-
 module _ (n : ℕ) (a : List Float) where
   pub backward_end : (i : ℕ) (x : List Float) → i ≤ 0 → backward n a i x ≡ x
   unfolding backward
@@ -104,16 +82,19 @@ module _ (n : ℕ) (a : List Float) where
   unfolding backward
   backward_suc i x = refl
 
-  -- place i - 1, of the row that ends at `end`; v is what the code's parts give
-  pub backward_more : (i end : ℕ) (x : List Float) (v : Float) → 0 < i → i ≤ n → length x ≡ n → end ≡ i * n
-      → v ≡ less_products (get_or x (i - 1) nan) (take (end - ((end - n) + i)) (drop ((end - n) + i) a)) (take (n - i) (drop i x))
-      → backward n a i x ≡ backward n a (i - 1) (set x (i - 1) (div binary32 v (get_or a ((end - n) + (i - 1)) nan)))
-  backward_more i end x v h g l ee ev =
+  -- v is what the code's parts give
+  backward_at : (i : ℕ) (x : List Float) (v : Float) → i < n
+      → v ≡ less_products (get_or x i nan) (take ((i * n + n) - ((i * n + i) + 1)) (drop ((i * n + i) + 1) a)) (take (length x - (i + 1)) (drop (i + 1) x))
+      → backward n a (suc i) x ≡ backward n a i (set x i (div binary32 v (entry n i i a)))
+  backward_at i x v h ev =
+      let e : (i * n + n) - ((i * n + i) + 1) ≡ n - (i + 1) = omega arith in
+      let f : (i * n + i) + 1 ≡ i * n + (i + 1) = omega arith in
+      let r : drop (i + 1) (row n i a) ≡ take (n - (i + 1)) (drop (i * n + (i + 1)) a) = drop-take (i + 1) n (drop (i * n) a) ∙ ap (take (n - (i + 1))) (drop-drop (i + 1) (i * n) a) in
+      backward_suc i x ∙ rw (ev, e, f, tail x, r)
+
+  pub backward_more : (i : ℕ) (x : List Float) (v : Float) → 0 < i → i ≤ n
+      → v ≡ less_products (get_or x (i - 1) nan) (take (((i - 1) * n + n) - (((i - 1) * n + (i - 1)) + 1)) (drop (((i - 1) * n + (i - 1)) + 1) a)) (take (length x - ((i - 1) + 1)) (drop ((i - 1) + 1) x))
+      → backward n a i x ≡ backward n a (i - 1) (set x (i - 1) (div binary32 v (get_or a ((i - 1) * n + (i - 1)) nan)))
+  backward_more i x v h g ev =
       let e : i ≡ suc (i - 1) = omega arith in
-      let m : (i - 1) + 1 ≡ i = omega arith in
-      let q : end - n ≡ (i - 1) * n = row_before i n end h ee in
-      let w : end - ((i - 1) * n + i) ≡ n - i = omega (arith, q, row_end h g) in
-      let d : drop i (row n (i - 1) a) ≡ take (n - i) (drop ((i - 1) * n + i) a) = drop-take i n (drop ((i - 1) * n) a) ∙ ap (take (n - i)) (drop-drop i ((i - 1) * n) a) in
-      let r : length (drop i x) ≤ n - i = simp length-drop (omega arith) in
-      let t : take (n - i) (drop i x) ≡ drop i x = take_all (n - i) (drop i x) r in
-      ap (λ (j : ℕ). backward n a j x) e ∙ backward_suc (i - 1) x ∙ rw (ev, m, q, w, t, d)
+      ap (λ (j : ℕ). backward n a j x) e ∙ backward_at (i - 1) x v (omega arith) ev

@@ -51,9 +51,10 @@ struct Factors<'a> {
 }
 
 impl<'a> Factors<'a> {
-    fn forward(self, x: &mut [f32])
-        requires { length x.old ≡ self.n }
-        ensures { x.new ≡ forward self.n self.rows.now self.n 0 x.old }
+    #[tactic(auto, using(elimination::proofs::Rows::inside, elimination::proofs::Rows::at_inside))]
+    fn forward(&self, x: &mut [f32])
+        requires { length x.old ≡ self.now.n }
+        ensures { x.new ≡ forward self.now.n self.now.rows.now self.now.n 0 x.old }
     {
         for i in 0..self.n {
             let at = i * self.n;
@@ -61,9 +62,10 @@ impl<'a> Factors<'a> {
         }
     }
 
-    fn backward(self, x: &mut [f32])
-        requires { length x.old ≡ self.n }
-        ensures { x.new ≡ backward self.n self.rows.now self.n x.old }
+    #[tactic(auto, using(elimination::proofs::Rows::inside, elimination::proofs::Rows::at_inside))]
+    fn backward(&self, x: &mut [f32])
+        requires { length x.old ≡ self.now.n }
+        ensures { x.new ≡ backward self.now.n self.now.rows.now self.now.n x.old }
     {
         for i in (0..self.n).rev() {
             let at = i * self.n;
@@ -73,9 +75,9 @@ impl<'a> Factors<'a> {
     }
 
     // All unknowns, before any test: what isn't finite stays so.
-    fn unknowns(self, right: &[f32], x: &mut [f32])
-        requires { (length right.now ≡ self.n) × (length x.old ≡ self.n) }
-        ensures { x.new ≡ backward self.n self.rows.now self.n (forward self.n self.rows.now self.n 0 (permuted 0 self.swaps.now right.now)) }
+    fn unknowns(&self, right: &[f32], x: &mut [f32])
+        requires { (length right.now ≡ self.now.n) × (length x.old ≡ self.now.n) }
+        ensures { x.new ≡ backward self.now.n self.now.rows.now self.now.n (forward self.now.n self.now.rows.now self.now.n 0 (permuted 0 self.now.swaps.now right.now)) }
     {
         x.copy_from_slice(right);
         permute(self.swaps, x);
@@ -84,9 +86,9 @@ impl<'a> Factors<'a> {
     }
 
     // The unknowns, worked out in x, go into `res` unless one isn't finite.
-    fn substitute_in(self, right: &[f32], x: &mut [f32], res: &mut [f32]) -> Result<(), Refusal>
-        requires { (length right.now ≡ self.n) × (length x.old ≡ self.n) × (self.n ≤ length res.old) }
-        ensures { answer (code result) res.new ≡ into self.n 0 (substituted self.n self.rows.now self.swaps.now right.now) res.old }
+    fn substitute_in(&self, right: &[f32], x: &mut [f32], res: &mut [f32]) -> Result<(), Refusal>
+        requires { (length right.now ≡ self.now.n) × (length x.old ≡ self.now.n) × (self.now.n ≤ length res.old) }
+        ensures { answer (code result) res.new ≡ into self.now.n 0 (substituted self.now.n self.now.rows.now self.now.swaps.now right.now) res.old }
     {
         self.unknowns(right, x);
         unless(all_finite(x), Refusal::Overflow)?;
@@ -94,9 +96,9 @@ impl<'a> Factors<'a> {
         Ok(())
     }
 
-    fn substitute(self, right: &[f32], res: &mut [f32]) -> Result<(), Refusal>
-        requires { (self.n ≤ dof_limit) × (length right.now ≡ self.n) × (self.n ≤ length res.old) }
-        ensures { answer (code result) res.new ≡ into self.n 0 (substituted self.n self.rows.now self.swaps.now right.now) res.old }
+    fn substitute(&self, right: &[f32], res: &mut [f32]) -> Result<(), Refusal>
+        requires { (self.now.n ≤ dof_limit) × (length right.now ≡ self.now.n) × (self.now.n ≤ length res.old) }
+        ensures { answer (code result) res.new ≡ into self.now.n 0 (substituted self.now.n self.now.rows.now self.now.swaps.now right.now) res.old }
     {
         let mut x = [0.0; DOFS];
         self.substitute_in(right, &mut x[..self.n], res)
@@ -104,6 +106,7 @@ impl<'a> Factors<'a> {
 }
 
 // The solution for one right side, by the factors and swaps that `factor` made.
+#[tactic(auto, using(refusal::proofs::Answers::passed, crate::proofs::Answers::substitute_fits))]
 pub fn substitute(
     n: usize,
     factors: &[f32],
@@ -145,12 +148,8 @@ fn solve_sized<const M: usize>(
 }
 
 // The solve of any floats: rule 7 isn't tested. What isn't finite gives 12, where the matrix's own 11 or 12 isn't met first.
-pub fn solve_any(
-    n: usize,
-    matrix: &[f32],
-    right: &[f32],
-    res: &mut [f32],
-) -> Result<(), Refusal>
+#[tactic(auto, using(refusal::proofs::Answers::passed, crate::proofs::Answers::any_room))]
+pub fn solve_any(n: usize, matrix: &[f32], right: &[f32], res: &mut [f32]) -> Result<(), Refusal>
     ensures { answer (code result) res.new ≡ solve_any n matrix.now right.now res.old }
 {
     let room = square_fits(n, matrix.len()) & (n <= right.len()) & (n <= res.len());
@@ -163,7 +162,8 @@ pub fn solve_any(
 }
 
 // Rules 1, 2 and 7, over what is needed alone. Past the limit no float need be read: 2 is lower.
-fn refuse(n: usize, matrix: &[f32], right: &[f32], room: usize) -> Result<(), Refusal>
+#[tactic(auto, using(crate::proofs::Answers::refusal_is))]
+fn solve_refusal(n: usize, matrix: &[f32], right: &[f32], room: usize) -> Result<(), Refusal>
     ensures { code result ≡ solve_refusal n matrix.now right.now room }
 {
     let few = n.min(DOFS);
@@ -180,6 +180,6 @@ fn refuse(n: usize, matrix: &[f32], right: &[f32], room: usize) -> Result<(), Re
 pub fn solve(n: usize, matrix: &[f32], right: &[f32], res: &mut [f32]) -> Result<(), Refusal>
     ensures { answer (code result) res.new ≡ solve_of n matrix.now right.now res.old }
 {
-    refuse(n, matrix, right, res.len())?;
+    solve_refusal(n, matrix, right, res.len())?;
     solve_any(n, matrix, right, res)
 }
