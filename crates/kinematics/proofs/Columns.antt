@@ -14,6 +14,7 @@ use lib.Dec.{ltb}
 use lib.IntN.{ℤ, pos, negsuc}
 use lib.ListN.{length, drop, get_or, set, get_or-append, length-replicate, get_or-replicate}
 use lib.Seq.{get_or-append-add, get_or-take, get_or-drop, get_or-set_other}
+use Rattle.std.specs.Float.{float_is_finite}
 use lib.Ieee.{Float, nan, inf, fin, binary32, add, mul, neg, round, units, odd, sum, size, span, climb, up, down, unlike}
 use Rattle.kinematics.specs.Inner.{result_of}
 use Rattle.arm.specs.Arm.{link_at, locked_of}
@@ -61,12 +62,13 @@ plus_zero true = refl
 plus_zero false = refl
 
 stays_zero : (k : Float) → is_finite k ≡ true → plus_times k zero32 zero32 ≡ zero32
+unfolding float_is_finite
 stays_zero nan h = cc
 stays_zero (inf s) h = cc
 stays_zero (fin s m e) h = rw (zero_is, times_zero s m e) (plus_zero (unlike s false))
 
 neg-finite : (k : Float) → is_finite (neg k) ≡ is_finite k
-unfolding neg
+unfolding neg float_is_finite
 neg-finite nan = refl
 neg-finite (inf s) = refl
 neg-finite (fin s m e) = refl

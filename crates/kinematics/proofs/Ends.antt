@@ -1,7 +1,8 @@
 -- The two passes' ends: too short, not finite, or done. Assumes nothing.
 use mathlib.Core.Path.{◌≡◌, refl, sym, ap, ◌∙◌}
 use Prim.Native.Nat.{ℕ, min, ◌*◌, ◌≤◌, ◌<◌}
-use mathlib.Core.Bool.{Bool, true, false, cond}
+use mathlib.Core.Bool.{Bool, true, false}
+use Rattle.std.proofs.lemmas.Bool.{true≢false}
 use mathlib.Core.List.{List, [], ◌++◌}
 use native.Mathlib.Omega.{arith}
 use native.Mathlib.Decide.{dec_lt}
@@ -49,10 +50,10 @@ laid_over n fit f new t long size same past =
     ap (blocks_laid every_link f link_limit) (sym (take-append-drop table_size t))
     ∙ laid_front every_link f link_limit f_size front (drop table_size t) (omega (arith, front_length)) link_limit (omega arith)
     ∙ ap (λ (y : List Float). y ++ drop table_size t)
-      (blocks_same block_size link_limit _ _
-      (laid_length every_link f link_limit f_size front (omega (arith, front_length)) link_limit (omega arith) ∙ front_length)
-      (laid_length every_link new n size zeros (omega (arith, enough, zeros_length)) n (omega arith) ∙ zeros_length)
-      (λ j h. laid_block every_link f link_limit f_size front (omega (arith, front_length)) link_limit (omega arith) j h ∙ go j h))
+    (blocks_same block_size link_limit _ _
+    (laid_length every_link f link_limit f_size front (omega (arith, front_length)) link_limit (omega arith) ∙ front_length)
+    (laid_length every_link new n size zeros (omega (arith, enough, zeros_length)) n (omega arith) ∙ zeros_length)
+    (λ j h. laid_block every_link f link_limit f_size front (omega (arith, front_length)) link_limit (omega arith) j h ∙ go j h))
   where
     front : List Float
     front = take table_size t
@@ -136,7 +137,7 @@ module _ (ls : List Link) (count : ℕ) (t : List Float) where
       all_tables h =
           laid_marks ls every every_link t (work_at work) t link_limit is_every
           ∙ laid_over n fit (work_at work) (new_block ls every_link t) t long (new_size ls every_link t n fit sized long)
-            (λ j l. k'.marked h j l refl) (λ j l m. k'.beyond h j l ∙ get_or-replicate link_limit j zero_block [] m)
+          (λ j l. k'.marked h j l refl) (λ j l m. k'.beyond h j l ∙ get_or-replicate link_limit j zero_block [] m)
           ∙ every_tables ls sized n fit t long
 
       pub all_yes : r.fine ≡ true → (m : List Float) → m ≡ blocks_laid every (work_at work) link_limit t → out (record { fine = true; links = r.links }) m ≡ refresh_all ls count t
@@ -145,3 +146,18 @@ module _ (ls : List Link) (count : ℕ) (t : List Float) where
           (k'.links h ∙ every_links ls sized t (cleared t) long long' n fit)
           (q ∙ all_tables h)
           ∙ is_all
+
+-- ---- where a result isn't finite all is as it was
+
+passed_stays : (f : Bool) (s : State) (ls : List Link) (t : List Float) → (passed f s ls t).answer.fine ≡ false → passed f s ls t ≡ out (record { fine = false; links = ls }) t
+unfolding passed
+passed_stays true s ls t h = absurd (true≢false h)
+passed_stays false s ls t h = refl
+
+pub marked_stays : (ls : List Link) (count : ℕ) (b : ℕ → Bool) (t : List Float) → (refresh_marked ls count b t).answer.fine ≡ false → refresh_marked ls count b t ≡ out (record { fine = false; links = ls }) t
+unfolding refresh_marked
+marked_stays ls count b t h = passed_stays _ _ ls t h
+
+pub all_stays : (ls : List Link) (count : ℕ) (t : List Float) → (refresh_all ls count t).answer.fine ≡ false → refresh_all ls count t ≡ out (record { fine = false; links = ls }) t
+unfolding refresh_all
+all_stays ls count t h = passed_stays _ _ ls t h

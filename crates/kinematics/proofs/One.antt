@@ -1,6 +1,6 @@
 -- One link alone: its turn is what is stated of it; and so is the pass over it, as before its turn nothing has changed and after it nothing does. Assumes
 -- nothing.
-use mathlib.Core.Path.{◌≡◌, refl, sym, ap, ap₂, ◌∙◌, subst}
+use mathlib.Core.Path.{◌≡◌, refl, sym, ap, ◌∙◌}
 use mathlib.Core.Logic.{◌≢◌}
 use Prim.Native.Nat.{ℕ, zero, suc, min, ◌-◌, ◌≤◌, ◌<◌}
 use mathlib.Core.Bool.{Bool, true, false, cond, and-true, and-false}
@@ -13,6 +13,7 @@ use lib.ListN.{length, set}
 use lib.Seq.{set-get_or}
 use lib.Ieee.{Float}
 use Rattle.std.specs.Prelude.{Option, None, Some}
+use Rattle.std.proofs.lemmas.Bool.{true≢false}
 use Rattle.std.specs.Option.{option_and}
 use Rattle.kinematics.specs.Inner.{posed_of, parent_before, kept_block, Turned, TurnedTo, result_of, TurnedOutcome, turned_out, one_kept, one_fits, refresh_one}
 use Rattle.arm.specs.Arm.{no_link, link_at, locked_of}
@@ -70,6 +71,14 @@ module _ (l above : Link) (start j : ℕ) (t : List Float) where
     pub one_yes : one_fits start j t ≡ true → new.fine ≡ true → (m : List Float) → m ≡ with_block j own t → turned_out (record { link = new.link; fine = true }) m ≡ refresh_one l above start j t
     unfolding refresh_one
     one_yes h q m e = rw (h, sym its.test ∙ q) (λ i. turned_out (record { link = its_link true q i; fine = true }) ((e ∙ ap (λ (b : List Float). with_block j b t) its.block) i))
+
+chosen : (f : Bool) (y n : TurnedOutcome) → y.answer.fine ≡ true → (cond f y n).answer.fine ≡ false → cond f y n ≡ n
+chosen true y n e h = absurd (true≢false (sym e ∙ h))
+chosen false y n e h = refl
+
+pub one_stays : (l above : Link) (start j : ℕ) (t : List Float) → (refresh_one l above start j t).answer.fine ≡ false → refresh_one l above start j t ≡ turned_out (record { link = l; fine = false }) t
+unfolding refresh_one
+one_stays l above start j t h = chosen _ _ _ refl h
 
 -- ---- the pass over it
 

@@ -1,5 +1,5 @@
 -- What is refused isn't fine, and a test that refuses doesn't hold. By cases.
-use Rattle.std.proofs.Common.{ℕ, suc, ◌≡◌, ◌∙◌, sym, ap, refl, Bool, true, false, Result, Ok, Err}
+use Rattle.std.proofs.Common.{ℕ, suc, ◌≡◌, sym, refl, Bool, true, false, Result, Ok, Err}
 use Rattle.std.specs.Prelude.{is_ok, IsErr}
 use Rattle.std.proofs.lemmas.Bool.{true≢false}
 use Rattle.refusal.specs.declared.Refusal.{Refusal}

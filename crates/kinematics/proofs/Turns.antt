@@ -1,7 +1,7 @@
 -- A turn of the pass, whose blocks go into a work area: the link and its block are what the definition works out, as the parent's block is found where it
 -- was laid. Assumes nothing.
 use mathlib.Core.Path.{◌≡◌, refl, sym, ap, ap₂, ◌∙◌, subst}
-use Prim.Native.Nat.{ℕ, zero, suc, min, ◌+◌, ◌*◌, ◌-◌, ◌≤◌, ◌<◌}
+use Prim.Native.Nat.{ℕ, zero, suc, ◌+◌, ◌*◌, ◌≤◌, ◌<◌}
 use mathlib.Core.Bool.{Bool, true, false, cond, ◌&&◌, and-true}
 use Rattle.std.proofs.lemmas.Bool.{true≢false}
 use mathlib.Core.List.{List, [], map}
@@ -21,13 +21,13 @@ use Rattle.arm.specs.Setters.{with_place}
 use Rattle.arm.specs.Arm.{no_link, link_at, locked_of}
 use Rattle.lists.specs.Numbers.{all_below}
 use Rattle.limits.specs.Limits.{link_limit, dof_limit, block_size, table_size}
-use Rattle.floats.specs.Floats.{zero32, all_finite}
+use Rattle.floats.specs.Floats.{all_finite}
 use Rattle.masks.specs.Masks.{dofs_of}
 use Rattle.masks.specs.Starts.{start_of, total_of}
 use Rattle.masks.proofs.Totals.{start_next, start_le}
 use Rattle.arm.specs.declared.Link.{Link}
 use Rattle.kinematics.specs.declared.Posed.{Posed}
-use Rattle.kinematics.specs.Blocks.{zero_block, block_at, with_block}
+use Rattle.kinematics.specs.Blocks.{block_at, with_block}
 use Rattle.kinematics.specs.Link.{Kept, Inputs, later_posed, root_posed, block_from, kept_of, root_kept, later_kept, finite_place, finite_kept, with_kept}
 use Rattle.kinematics.specs.Pass.{run}
 use Rattle.kinematics.specs.State.{State, state, inputs_of, kept_at, put_kept, kept_ops, state_after, fine_after, parent_at}
@@ -157,6 +157,7 @@ pub record Held (ls : List Link) (n : ℕ) (b : ℕ → Bool) (t : List Float) (
   pub places : length links ≡ link_limit
   pub room : length work ≡ link_limit
   pub begins : start ≡ start_of (map locked_of ls) j
+  pub low : start ≤ 3 * j
   pub refreshed : links ≡ (state_after ls j b t).links
   pub marked : (k : ℕ) → k < j → b k ≡ true → work_at work k ≡ new_block ls b t k
   pub beyond : (k : ℕ) → j ≤ k → work_at work k ≡ work_at work₀ k
@@ -168,6 +169,7 @@ held_none ls n b t work₀ p q = record {
   places = p;
   room = q;
   begins = refl;
+  low = omega arith;
   refreshed = none_links ls b t;
   marked = λ k h m. absurd (omega arith);
   beyond = λ k h. refl;
@@ -202,6 +204,7 @@ module _ (ls : List Link) (n : ℕ) (fit : n ≤ link_limit) (sized : length ls 
     places = held.places;
     room = held.room;
     begins = next_start d ed;
+    low = omega (arith, next_start d ed, start_le (map locked_of ls) (j + 1));
     refreshed = skip_links ls b t j links held.refreshed m;
     marked = λ k l q. elim (dec_lt k j) [
       | yes g ↦ held.marked k g q
@@ -306,11 +309,12 @@ module _ (ls : List Link) (n : ℕ) (fit : n ≤ link_limit) (sized : length ls 
         let c = copied_from parent b t work in
         let room₁ : length work₁ ≡ link_limit = ap length e₁ ∙ length-set work j c ∙ held.room in
         let away : (k : ℕ) → k ≢ j → work_at work' k ≡ work_at work k =
-            λ k q. ap (λ (w : List (List Float)). work_at w k) ew ∙ get_or-set_other work₁ j k own [] q ∙ ap (λ (w : List (List Float)). work_at w k) e₁ ∙ get_or-set_other work j k c [] q in
+        λ k q. ap (λ (w : List (List Float)). work_at w k) ew ∙ get_or-set_other work₁ j k own [] q ∙ ap (λ (w : List (List Float)). work_at w k) e₁ ∙ get_or-set_other work j k c [] q in
         record {
           places = ap length el ∙ length-set links j new.link ∙ held.places;
           room = ap length ew ∙ length-set work₁ j own ∙ room₁;
           begins = next_start d ed;
+          low = omega (arith, next_start d ed, start_le (map locked_of ls) (j + 1));
           refreshed = el ∙ more_links ls b t j links held.refreshed m new.link (its.place ∙ ap₂ (λ (y : Bool) (l : Link). cond y (with_kept l (new_of ls b t j)) l) f (sym given));
           marked = λ k l q. elim (dec_lt k j) [
             | yes g ↦ away k (omega arith) ∙ held.marked k g q

@@ -1,7 +1,6 @@
 -- What inner functions are shown to do: no entry point's promise cites it.
 use Rattle.std.specs.Prelude.{ℕ, zero, suc, ◌-◌, ◌≡◌, ◌≤◌, ◌<◌, Bool, true, false, cond, ◌&&◌, List, [], get_or, leb, ltb, length, Float, Option, None, Some, Result, is_ok}
-use Rattle.limits.specs.Limits.{link_limit, dof_limit, block_size, table_size}
-use Rattle.lists.specs.Lists.{part}
+use Rattle.limits.specs.Limits.{link_limit, dof_limit, table_size}
 use Rattle.floats.specs.Floats.{all_finite}
 use Rattle.refusal.specs.declared.Refusal.{Refusal}
 use Rattle.arm.specs.declared.Link.{Link}

@@ -220,6 +220,7 @@ fn copy_parent(
 }
 
 // Of the first n links those marked, rising, each from what is kept of its parent. Their blocks go into `work`.
+#[tactic(auto, using(masks::proofs::Laws::dofs_le))]
 fn work_out(
     links: &mut [Link; LINKS],
     n: usize,

@@ -1,7 +1,7 @@
 -- `shift_block`: column by column. Assumes nothing.
-use Rattle.std.proofs.Common.{◌≡◌, ◌∙◌, ap, refl, arith, ℕ, length}
+use Rattle.std.proofs.Common.{◌≡◌, ◌∙◌, ap, refl, arith, ℕ}
 use Rattle.std.specs.Float.Ieee.{neg}
-use Rattle.limits.specs.Limits.{dof_limit, block_size}
+use Rattle.limits.specs.Limits.{dof_limit}
 use Rattle.kinematics.specs.Blocks.{plus_times, shifted}
 use Rattle.kinematics.proofs.Shift.{columns_none, columns_more, columns_done, columns_to}
 use Rattle.kinematics.proofs.shift_block.Goals as goal

@@ -1,9 +1,7 @@
 -- `work_out`: turn by turn. Assumes nothing.
-use Rattle.std.proofs.Common.{◌≡◌, ◌∙◌, ap, sym, refl, arith, ℕ, length, rules}
-use Rattle.kinematics.specs.Inner.{turned}
+use Rattle.std.proofs.Common.{◌≡◌, ap, arith}
 use Rattle.kinematics.specs.State.{marked}
-use Rattle.masks.proofs.Laws.{dofs_le}
-use Rattle.kinematics.proofs.Turns.{held_all, held_more, held_none, held_skip, start_room, worked_no, not_fine}
+use Rattle.kinematics.proofs.Turns.{held_all, held_more, held_none, held_skip, worked_no, not_fine}
 use Rattle.kinematics.proofs.Refused.{not_ok}
 use Rattle.std.specs.Prelude.{is_ok}
 use Rattle.kinematics.proofs.work_out.Goals as goal
@@ -12,13 +10,6 @@ use Rattle.kinematics.proofs.work_out.Goals.{then-marks-j+in_ok-refresh_link, el
 pub loop-j-init : goal.loop-j-init
 loop-j-init c =
     held_none c.args.links.now c.args.n (marked c.args.marks.now) c.args.tables.now c.args.work.now (omega arith) (omega arith)
-
-pub refresh_link-requires : goal.refresh_link-requires
-refresh_link-requires c = start_room c.args.links.now c.loop-j.j c.loop-j.start c.args.n c.loop-j-test.true c.requires.n_le_link_limit c.loop-j.invariant.begins
-
-pub overflow_add-start : goal.overflow_add-start
-overflow_add-start c =
-    omega (arith, c.dofs-start.ensures, dofs_le, start_room c.args.links.now c.loop-j.j c.loop-j.start c.args.n c.loop-j-test.true c.requires.n_le_link_limit c.loop-j.invariant.begins)
 
 pub returns-in_err-refresh_link-clause-worked : goal.returns-in_err-refresh_link-clause-worked
 returns-in_err-refresh_link-clause-worked c =
