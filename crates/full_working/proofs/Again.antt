@@ -25,7 +25,8 @@ use Rattle.multibody_joint.specs.declared.Joint.{Joint}
 use Rattle.arm.specs.declared.Link.{Link}
 use Rattle.arm.specs.declared.Arm.{Arm}
 use Rattle.arm.specs.Arm.{live_links, no_link, link_at, locked_of}
-use Rattle.arm.specs.HandedIn.{joint_finite, link_finite, link_angle_fits, arm_refusal}
+use Rattle.multibody_joint.specs.Joint.{joint_finite}
+use Rattle.arm.specs.HandedIn.{link_finite, link_angle_fits, arm_refusal}
 use Rattle.kinematics.specs.Link.{Kept, finite_place, finite_kept}
 use Rattle.kinematics.specs.State.{State, state, inputs_of, kept_at, kept_ops, state_after, fine_after, cleared, parent_at, every_link}
 use Rattle.kinematics.specs.Answers.{passed, refresh_all}

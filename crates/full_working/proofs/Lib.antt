@@ -1,6 +1,5 @@
 pub mod Refused
 pub mod Exits
 pub mod Passed
-mod Emptied
 pub mod Again
 pub mod Unused

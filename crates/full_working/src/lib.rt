@@ -16,6 +16,7 @@ use refusal::{Refusal, lower, unless};
 // ---- What a call ends in
 
 // Every link of the arm is worked out, and all of the tables are rewritten; refused, the arm and the tables stay.
+#[tactic(auto, using(crate::proofs::Passed::passed_on))]
 pub fn work_all(arm: &mut Arm, tables: &mut [f32]) -> Result<(), Refusal>
     ensures { out (edited_as arm.new result) tables.new ≡ worked_all arm.old arm.old tables.old }
 {
@@ -31,6 +32,7 @@ pub fn tables_fit(tables: &[f32]) -> bool
 
 // ---- The full working
 
+#[tactic(auto, unfolding(crate::specs::Full::full_refusal))]
 fn full_refusal(arm: &Arm, tables: &[f32]) -> Result<(), Refusal>
     ensures { code result ≡ full_refusal arm.now tables.now }
 {
@@ -38,6 +40,7 @@ fn full_refusal(arm: &Arm, tables: &[f32]) -> Result<(), Refusal>
 }
 
 // All links, rising; all of the tables are rewritten.
+#[tactic(auto, using(crate::proofs::Refused::refused_exit, crate::proofs::Refused::goes_past), unfolding(crate::specs::Full::full_working))]
 pub fn full_working(arm: &mut Arm, tables: &mut [f32]) -> Result<(), Refusal>
     ensures { out (edited_as arm.new result) tables.new ≡ full_working arm.old tables.old }
 {
@@ -48,6 +51,7 @@ pub fn full_working(arm: &mut Arm, tables: &mut [f32]) -> Result<(), Refusal>
 // ---- The empty arm
 
 // An arm of no links; its tables hold +0.
+#[tactic(auto, unfolding(crate::specs::Empty::emptied))]
 pub fn empty(tables: &mut [f32]) -> Result<Arm, Refusal>
     ensures { out (made_as result) tables.new ≡ emptied tables.old }
 {
