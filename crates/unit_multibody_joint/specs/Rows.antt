@@ -1,10 +1,13 @@
 -- Constraint rows, by document 01's 'Constraint rows': bounds and right side, the row of any J, and J of one degree of freedom.
-use Rattle.std.specs.Prelude.{ℕ, Bool, cond, List, [], ◌∷◌, get_or, set, replicate, Float}
+use Rattle.std.specs.Prelude.{ℕ, Bool, cond, List, [], ◌∷◌, get_or, set, replicate, Result, Ok, Err, Float}
 use Rattle.std.specs.Float.{nan}
 use Rattle.std.specs.Float.Ieee.{lt, eq, neg}
 use Rattle.floats.specs.Floats.{f32, zero32, one32, plus, minus, times, over, all_finite}
+use Rattle.refusal.specs.declared.Refusal.{Refusal}
+use Rattle.refusal.specs.Refusal.{number}
 use Rattle.unit_multibody_joint.specs.declared.Limits.{Limits}
 use Rattle.unit_multibody_joint.specs.declared.Bounds.{Bounds}
+use Rattle.unit_multibody_joint.specs.declared.Constraint.{Constraint}
 use Rattle.unit_multibody_joint.specs.declared.ConstraintRow.{ConstraintRow}
 use Rattle.unit_multibody_joint.specs.Outcome.{Outcome, solved_answer}
 
@@ -67,6 +70,11 @@ row_of b cfm lhs = record {
 -- refused: the number, and zeros
 abbrev pub refused_row : ℕ → ConstraintRow
 refused_row k = record { refusal = k; lower = zero32; upper = zero32; rhs = zero32; cfm_gain = zero32; inv_lhs = zero32 }
+
+-- what C is told of a row
+abbrev pub row_as : Result Constraint Refusal → ConstraintRow
+row_as (Ok c) = record { refusal = 0; lower = c.lower; upper = c.upper; rhs = c.rhs; cfm_gain = c.cfm_gain; inv_lhs = c.inv_lhs }
+row_as (Err r) = refused_row (number r)
 
 abbrev pub finite_row : ConstraintRow → Bool
 finite_row r = all_finite (r.lower ∷ r.upper ∷ r.rhs ∷ r.cfm_gain ∷ r.inv_lhs ∷ [])
