@@ -4,36 +4,30 @@ use mathlib.Core.Path.{◌≡◌, refl, sym, ap, ◌∙◌}
 use mathlib.Core.Bool.{Bool, true, false, cond}
 use mathlib.Core.List.{List, [], ◌∷◌, map}
 use native.Mathlib.Omega.{arith}
-use lib.ListN.{length, drop, get_or, set, length-drop}
+use lib.ListN.{length, drop, get_or, set, length-drop, length-map}
 use lib.Seq.{length-take-le}
 use lib.Ieee.{Float}
-use Rattle.part_arm.specs.Inner.{links_out, couplings_out}
+use Rattle.std.proofs.Common.{Option, Some, None}
+use Rattle.std.specs.Option.{option_to_list}
+use Rattle.lists.specs.Lists.{laid}
+use Rattle.lists.specs.Numbers.{gathered}
 use Rattle.arm.specs.Setters.{arm_with}
 use Rattle.arm.specs.Empty.{blank_row, empty_arm}
-use Rattle.lists.proofs.Gathered.{Laid, chosen_le, laid_as, laid_skip, laid_one, laid_part}
+use Rattle.lists.proofs.Gathered.{Laid, laid_skip, laid_one, laid_part}
 use Rattle.lists.specs.Lists.{part, with_part}
-use Rattle.limits.specs.Limits.{link_limit, coupling_limit, dof_limit}
+use Rattle.limits.specs.Limits.{link_limit, coupling_limit}
 use Rattle.masks.specs.Masks.{dofs_of}
 use Rattle.arm.specs.declared.Link.{Link}
 use Rattle.arm.specs.declared.Coupling.{Coupling}
 use Rattle.arm.specs.declared.Row.{Row}
 use Rattle.arm.specs.declared.Arm.{Arm}
-use Rattle.arm.specs.Arm.{live_links, mask_at, start_at, link_at, coupling_at, own_part}
-use Rattle.arm.proofs.Live.{dof_count_le, mask_there, start_more, start_within}
-use Rattle.part_arm.specs.declared.LinksOut.{LinksOut}
-use Rattle.part_arm.specs.declared.CouplingsOut.{CouplingsOut}
+use Rattle.arm.specs.Arm.{live_links, links_of, locked_of, masks_of, mask_at, start_at, link_at, coupling_at, own_part}
+use Rattle.masks.proofs.Totals.{start_next}
+use Rattle.masks.proofs.Laws.{dofs_le}
+use Rattle.lists.proofs.Lists.{map_at, any_default}
+use Rattle.part_arm.specs.Inner.{link_if_here, coupling_if_stays}
 use Rattle.part_arm.specs.Places.{Places, goes_on}
 use Rattle.part_arm.specs.Part.{new_link, part_links, part_entries, part_row, coupling_stays, new_coupling, part_couplings, part_arm}
-
--- ---- blank places
-
-pub blank_links : length empty_arm.links ≡ link_limit
-unfolding empty_arm
-blank_links = refl
-
-pub blank_couplings : length empty_arm.couplings ≡ coupling_limit
-unfolding empty_arm
-blank_couplings = refl
 
 if_so : {A : Type 0} (b : Bool) (x y : A) → b ≡ true → cond b x y ≡ x
 if_so b x y e = rw e
@@ -41,100 +35,88 @@ if_so b x y e = rw e
 if_not : {A : Type 0} (b : Bool) (x y : A) → b ≡ false → cond b x y ≡ y
 if_not b x y e = rw e
 
+-- ---- what is kept of an item, if anything, is laid behind what was kept before
+
+module _ {A : Type 0} (f : ℕ → List A) (to : List A) (j : ℕ) (out : List A) (count : ℕ) (t : Laid f to j out count) where
+  pub kept_one : (x : A) {r : Option A} → r ≡ Some x → option_to_list r ≡ f j → count < length to → Laid f to (j + 1) (set out count x) (count + 1)
+  kept_one x p e h = laid_one f to j out count t x (sym e ∙ ap option_to_list p) h
+
+  pub kept_none : {r : Option A} → r ≡ None → option_to_list r ≡ f j → Laid f to (j + 1) out count
+  kept_none p e = laid_skip f to j out count t (sym e ∙ ap option_to_list p)
+
+  pub kept_all : (n : ℕ) → j ≡ n → (count ≡ length (gathered n f)) × (out ≡ laid (gathered n f) to)
+  kept_all n e = rw (← e) (t.counted, t.list)
+
+one_or_none : {A : Type 0} (b : Bool) (x : A) → option_to_list (cond b (Some x) None) ≡ cond b (x ∷ []) []
+one_or_none true x = refl
+one_or_none false x = refl
+
 module _ (p : Places) (a : Arm) where
-  -- ---- links
+  -- ---- links and couplings
 
   abbrev pub link_turn : ℕ → List Link
   link_turn j = let l = link_at a.links j in cond (p.here j) (new_link (p.head j) (p.number l.parent) l ∷ []) []
 
-  module _ (j : ℕ) (links : List Link) (count : ℕ) (t : Laid link_turn empty_arm.links j links count) where
-    pub link_room : j < link_limit → count < link_limit
-    link_room h = omega (arith, t.counted, chosen_le p.here (λ i. let l = link_at a.links i in new_link (p.head i) (p.number l.parent) l) j)
-
-    pub link_here : j < link_limit → (v : Link) → p.here j ≡ true → v ≡ new_link (p.head j) (p.number (link_at a.links j).parent) (link_at a.links j)
-        → (links' : List Link) (count' : ℕ) → links' ≡ set links count v → count' ≡ count + 1 → Laid link_turn empty_arm.links (j + 1) links' count'
-    link_here h v e q links' count' x y =
-        laid_as link_turn empty_arm.links (j + 1) (set links count v) (count + 1)
-        (laid_one link_turn empty_arm.links j links count t v (if_so (p.here j) _ _ e ∙ ap (λ (x : Link). x ∷ []) (sym q))
-        (omega (arith, link_room h, blank_links))) links' count' x y
-
-    pub link_elsewhere : p.here j ≡ false → (links' : List Link) (count' : ℕ) → links' ≡ links → count' ≡ count → Laid link_turn empty_arm.links (j + 1) links' count'
-    link_elsewhere e links' count' x y =
-        laid_as link_turn empty_arm.links (j + 1) links count (laid_skip link_turn empty_arm.links j links count t (if_not (p.here j) _ _ e)) links' count' x y
-
-    pub links_done : j ≡ live_links a → ◌≡◌ {A = LinksOut} (record { count = count; links = links }) (links_out p a)
-    unfolding links_out part_links
-    links_done e = cc (t.list, t.counted, e)
-
-  -- ---- couplings
-
   abbrev pub coupling_turn : ℕ → List Coupling
   coupling_turn i = cond (coupling_stays p (coupling_at a i)) (new_coupling p.number (coupling_at a i) ∷ []) []
 
-  module _ (i : ℕ) (couplings : List Coupling) (count : ℕ) (t : Laid coupling_turn empty_arm.couplings i couplings count) where
-    pub coupling_room : i < coupling_limit → count < coupling_limit
-    coupling_room h = omega (arith, t.counted, chosen_le (λ k. coupling_stays p (coupling_at a k)) (λ k. new_coupling p.number (coupling_at a k)) i)
+  pub link_given : (j : ℕ) (l : Link) (r : Option Link) → j < length a.links → l ≡ get_or a.links j l → r ≡ link_if_here p j l → option_to_list r ≡ link_turn j
+  unfolding link_if_here
+  link_given j l r h e q =
+      let same : l ≡ link_at a.links j = e ∙ any_default a.links j l _ h in
+      ap option_to_list q ∙ rw same (one_or_none (p.here j) _)
 
-    pub coupling_stays_lem : i < coupling_limit → (v : Coupling) → coupling_stays p (coupling_at a i) ≡ true → v ≡ new_coupling p.number (coupling_at a i)
-        → (couplings' : List Coupling) (count' : ℕ) → couplings' ≡ set couplings count v → count' ≡ count + 1 → Laid coupling_turn empty_arm.couplings (i + 1) couplings' count'
-    coupling_stays_lem h v e q couplings' count' x y =
-        laid_as coupling_turn empty_arm.couplings (i + 1) (set couplings count v) (count + 1)
-        (laid_one coupling_turn empty_arm.couplings i couplings count t v
-        (if_so (coupling_stays p (coupling_at a i)) _ _ e ∙ ap (λ (x : Coupling). x ∷ []) (sym q)) (omega (arith, coupling_room h, blank_couplings))) couplings'
-        count' x y
+  pub coupling_given : (i : ℕ) (c : Coupling) (r : Option Coupling) → i < length a.couplings → c ≡ get_or a.couplings i c → r ≡ coupling_if_stays p c
+      → option_to_list r ≡ coupling_turn i
+  unfolding coupling_if_stays
+  coupling_given i c r h e q =
+      let same : c ≡ coupling_at a i = e ∙ any_default a.couplings i c _ h in
+      ap option_to_list q ∙ rw same (one_or_none (coupling_stays p (coupling_at a i)) _)
 
-    pub coupling_lost : coupling_stays p (coupling_at a i) ≡ false → (couplings' : List Coupling) (count' : ℕ) → couplings' ≡ couplings → count' ≡ count
-        → Laid coupling_turn empty_arm.couplings (i + 1) couplings' count'
-    coupling_lost e couplings' count' x y =
-        laid_as coupling_turn empty_arm.couplings (i + 1) couplings count
-        (laid_skip coupling_turn empty_arm.couplings i couplings count t (if_not (coupling_stays p (coupling_at a i)) _ _ e)) couplings' count' x y
+-- ---- a row
 
-    pub couplings_done : i ≡ min a.coupling_count coupling_limit → ◌≡◌ {A = CouplingsOut} (record { count = count; couplings = couplings }) (couplings_out p a)
-    unfolding couplings_out part_couplings
-    couplings_done e = cc (t.list, t.counted, e)
+abbrev pub entries_turn : Places → Arm → List Float → ℕ → List Float
+entries_turn p a old j = cond (goes_on p j) (own_part a j old) []
 
-  -- ---- a row
+pub dofs_small : (d mask : ℕ) → d ≡ dofs_of mask → d ≤ 3
+dofs_small d mask e = omega (arith, dofs_le mask)
 
-  module _ (whole : length a.links ≡ link_limit) (old : List Float) (long : length old ≡ dof_limit) where
-    abbrev pub entries_turn : ℕ → List Float
-    entries_turn j = cond (goes_on p j) (own_part a j old) []
+module _ (a : Arm) (j d : ℕ) (l : Link) (there : j < length (links_of a)) (dofs : d ≡ dofs_of (get_or (links_of a) j l).joint.locked)
+    (start : ℕ) (begins : start ≡ start_at a j) where
+  mask : d ≡ dofs_of (mask_at a j)
+  unfolding mask_at masks_of
+  mask = dofs ∙ ap dofs_of (sym (map_at locked_of (links_of a) j l 7 there))
 
-    module _ (j d : ℕ) (l : Link) (there : j < live_links a) (dofs : d ≡ dofs_of (get_or a.links j l).joint.locked) (start : ℕ) (begins : start ≡ start_at a j) where
-      pub row_next : start + d ≡ start_at a (j + 1)
-      row_next = start_more a whole j start d l there begins dofs
+  pub row_next : start + d ≡ start_at a (j + 1)
+  unfolding start_at mask_at masks_of
+  row_next = omega (arith, start_next (masks_of a) j 7 (rw length-map there), mask)
 
-      pub row_room : start + d ≤ dof_limit
-      row_room = omega (arith, row_next, start_within a (j + 1), dof_count_le a)
+  module _ (p : Places) (old : List Float) (room : start + d ≤ length old) (entries : List Float) (at : ℕ) (t : Laid (entries_turn p a old) blank_row.entries j entries at) where
+    own : part start d old ≡ own_part a j old
+    unfolding own_part
+    own = rw (mask, begins)
 
-      own : part start d old ≡ own_part a j old
-      unfolding own_part
-      own =
-          let e : d ≡ dofs_of (mask_at a j) = dofs ∙ ap dofs_of (mask_there a whole j l there) in
-          rw (e, begins)
+    own_length : length (part start d old) ≡ d
+    own_length = length-take-le d (drop start old) (rw length-drop (omega arith))
 
-      own_length : length (part start d old) ≡ d
-      own_length = length-take-le d (drop start old) (rw length-drop (omega (arith, row_room)))
+    pub entries_kept : goes_on p j ≡ true → Laid (entries_turn p a old) blank_row.entries (j + 1) (with_part at d (part start d old) entries) (at + d)
+    entries_kept e = laid_part (entries_turn p a old) blank_row.entries j entries at t d (part start d old) (if_so (goes_on p j) _ _ e ∙ sym own) own_length
 
-      module _ (entries : List Float) (at : ℕ) (t : Laid entries_turn blank_row.entries j entries at) where
-        pub entries_kept : goes_on p j ≡ true → (entries' : List Float) (at' : ℕ) → entries' ≡ with_part at d (part start d old) entries → at' ≡ at + d
-            → Laid entries_turn blank_row.entries (j + 1) entries' at'
-        entries_kept e entries' at' x y =
-            laid_as entries_turn blank_row.entries (j + 1) (with_part at d (part start d old) entries) (at + d)
-            (laid_part entries_turn blank_row.entries j entries at t d (part start d old) (if_so (goes_on p j) _ _ e ∙ sym own) own_length) entries' at' x y
+    pub entries_lost : goes_on p j ≡ false → Laid (entries_turn p a old) blank_row.entries (j + 1) entries at
+    entries_lost e = laid_skip (entries_turn p a old) blank_row.entries j entries at t (if_not (goes_on p j) _ _ e)
 
-        pub entries_lost : goes_on p j ≡ false → (entries' : List Float) (at' : ℕ) → entries' ≡ entries → at' ≡ at
-            → Laid entries_turn blank_row.entries (j + 1) entries' at'
-        entries_lost e entries' at' x y =
-            laid_as entries_turn blank_row.entries (j + 1) entries at (laid_skip entries_turn blank_row.entries j entries at t (if_not (goes_on p j) _ _ e)) entries' at' x y
+pub row_done : (p : Places) (a : Arm) (row : Row) (j : ℕ) (entries : List Float) (at : ℕ) → Laid (entries_turn p a row.entries) blank_row.entries j entries at → j ≡ live_links a
+    → ◌≡◌ {A = Row} (record { entries = entries }) (part_row p a row)
+unfolding part_row part_entries
+row_done p a row j entries at t e = cc (t.list, e)
 
-  pub row_done : (row : Row) (j : ℕ) (entries : List Float) (at : ℕ) → Laid (λ i. cond (goes_on p i) (own_part a i row.entries) []) blank_row.entries j entries at → j ≡ live_links a
-      → ◌≡◌ {A = Row} (record { entries = entries }) (part_row p a row)
-  unfolding part_row part_entries
-  row_done row j entries at t e = cc (t.list, e)
+-- ---- all of it
 
-  -- ---- all of it
-
-  pub assembled : (l : LinksOut) (c : CouplingsOut) (rows : List Row) → l ≡ links_out p a → c ≡ couplings_out p a → rows ≡ map (part_row p a) a.rows
-      → arm_with a l.count c.count l.links c.couplings rows ≡ part_arm p a
-  unfolding part_arm links_out couplings_out
-  assembled l c rows x y z = rw (x, y, z)
+module _ (p : Places) (a blank : Arm) (n m : ℕ) (ls : List Link) (cs : List Coupling) (rows : List Row) where
+  pub assembled : blank ≡ empty_arm → length a.links ≡ link_limit → length a.couplings ≡ coupling_limit
+      → (n ≡ length (gathered (min a.link_count (length a.links)) (link_turn p a))) × (ls ≡ laid (gathered (min a.link_count (length a.links)) (link_turn p a)) blank.links)
+      → (m ≡ length (gathered (min a.coupling_count (length a.couplings)) (coupling_turn p a)))
+      × (cs ≡ laid (gathered (min a.coupling_count (length a.couplings)) (coupling_turn p a)) blank.couplings)
+      → rows ≡ map (part_row p a) a.rows → arm_with a n m ls cs rows ≡ part_arm p a
+  unfolding part_arm part_links part_couplings
+  assembled e few some l c r = rw (l.0, l.1, c.0, c.1, few, some, r, e)

@@ -1,10 +1,8 @@
 // One part of a split as an arm: where its links go, and what of links, rows and couplings goes with them. Inner functions: they refuse nothing.
 #![tactic(auto)]
 
-ghost use Rattle.std.specs.Prelude.{◌≡◌, ◌≤◌, ◌^◌, ℕ, List, length};
-ghost use Rattle.lists.specs.Lists.{laid};
-ghost use Rattle.lists.specs.Numbers.{gathered};
-ghost use Rattle.part_arm.specs.Inner.{part_in, number_in, here_in, head_in, places_in, link_if_here, coupling_if_stays, Gives};
+ghost use Rattle.std.specs.Prelude.{◌≡◌, ◌≤◌, ◌^◌, length, map};
+ghost use Rattle.part_arm.specs.Inner.{part_in, number_in, here_in, head_in, places_in, seen_by, link_if_here, coupling_if_stays, Lays, IsWhole};
 ghost use Rattle.part_arm.specs.Places.{goes_on};
 ghost use Rattle.part_arm.specs.Part.{part_row, part_arm};
 
@@ -28,18 +26,21 @@ struct PartMap {
 
 impl PartMap {
     // Past the map, as of the deleted link.
+    #[tactic(auto, unfolding(crate::specs::Inner::part_in))]
     fn part(&self, j: u8) -> u8
         ensures { result ≡ part_in self.now.places j }
     {
         self.places.get(2 * j as usize).copied().unwrap_or(GONE)
     }
 
+    #[tactic(auto, unfolding(crate::specs::Inner::number_in))]
     fn number(&self, j: u8) -> u8
         ensures { result ≡ number_in self.now.places j }
     {
         self.places.get(2 * j as usize + 1).copied().unwrap_or(GONE)
     }
 
+    #[tactic(auto, unfolding(crate::specs::Inner::here_in))]
     fn is_here(&self, j: u8) -> bool
         ensures { result ≡ here_in self.now.places self.now.k j }
     {
@@ -47,6 +48,7 @@ impl PartMap {
     }
 
     // The first of a part is its head.
+    #[tactic(auto, unfolding(crate::specs::Inner::head_in))]
     fn is_head(&self, j: u8) -> bool
         ensures { result ≡ head_in self.now.places j }
     {
@@ -55,14 +57,15 @@ impl PartMap {
 
     // Does a link keep its joint and its row entries?
     fn goes_on(&self, j: u8) -> bool
-        ensures { result ≡ goes_on (places_in self.now.places self.now.k) j }
+        ensures { result ≡ goes_on (seen_by self.now) j }
     {
         self.is_here(j) & !self.is_head(j)
     }
 
     // Link j of the arm as the part has it, if it is here.
+    #[tactic(auto, unfolding(crate::specs::Inner::link_if_here, crate::specs::Part::new_link))]
     fn link(&self, j: u8, l: Link) -> Option<Link>
-        ensures { result ≡ link_if_here (places_in self.now.places self.now.k) j l }
+        ensures { result ≡ link_if_here (seen_by self.now) j l }
     {
         if !self.is_here(j) {
             return None;
@@ -82,8 +85,9 @@ impl PartMap {
     }
 
     // The entries of the links that go on, in order.
+    #[tactic(auto, using(masks::proofs::Laws::dofs_le, arm::proofs::Live::links_le))]
     fn row(&self, arm: &Arm, row: &Row) -> Row
-        ensures { result ≡ part_row (places_in self.now.places self.now.k) arm.now row.now }
+        ensures { IsWhole arm.now → result ≡ part_row (seen_by self.now) arm.now row.now }
     {
         let mut entries = [0.0; DOFS];
         let mut at = 0;
@@ -99,9 +103,16 @@ impl PartMap {
         Row { entries }
     }
 
+    fn rows(&self, arm: &Arm, rows: &[Row; 5]) -> [Row; 5]
+        ensures { IsWhole arm.now → result ≡ map (part_row (seen_by self.now) arm.now) rows.now }
+    {
+        rows.map(|row| self.row(arm, &row))
+    }
+
     // A coupling as the part has it, if it stays.
+    #[tactic(auto, unfolding(crate::specs::Inner::coupling_if_stays, crate::specs::Part::coupling_stays, crate::specs::Part::new_coupling))]
     fn coupling(&self, c: Coupling) -> Option<Coupling>
-        ensures { result ≡ coupling_if_stays (places_in self.now.places self.now.k) c }
+        ensures { result ≡ coupling_if_stays (seen_by self.now) c }
     {
         if self.goes_on(c.link1) & self.goes_on(c.link2) {
             Some(Coupling {
@@ -115,15 +126,16 @@ impl PartMap {
     }
 }
 
-// Lays what `kept` gives of each item, in turn, over the front of a list; answers how many those are.
-fn lay<T: Copy, F: Fn(u8, T) -> Option<T>>(items: &[T], to: &mut [T], kept: F) -> usize
+// Lays what `kept` gives of each of the first n items, in turn, over the front of a list; answers how many those are.
+fn lay<T: Copy, F: Fn(u8, T) -> Option<T>>(items: &[T], n: usize, to: &mut [T], kept: F) -> usize
     requires few { length items.now ≤ 2 ^ 8 }
     requires room { length items.now ≤ length to.old }
     requires callable { F.IsAlwaysCallable kept }
-    ensures { (g : ℕ → List T) → Gives (F.post kept) items.now g → (result ≡ length (gathered (length items.now) g)) × (to.new ≡ laid (gathered (length items.now) g) to.old) }
+    ensures { Lays (F.post kept) items.now n to.old result to.new }
 {
+    let live = &items[..n.min(items.len())];
     let mut count = 0;
-    for (j, item) in items.iter().enumerate() {
+    for (j, item) in live.iter().enumerate() {
         if let Some(new) = kept(j as u8, *item) {
             to[count] = new;
             count += 1;
@@ -140,8 +152,15 @@ pub fn part_arm(arm: &Arm, places: &[u8; MAP], k: usize) -> Arm
 {
     let part = PartMap { places: *places, k };
     let mut new = Arm::empty();
-    new.link_count = lay(arm.live_links(), &mut new.links, |j, l| part.link(j, l));
-    new.coupling_count = lay(arm.live_couplings(), &mut new.couplings, |_, c| part.coupling(c));
-    new.rows = arm.rows.map(|row| part.row(arm, &row));
+    new.link_count = lay(&arm.links, arm.link_count, &mut new.links, |j, l| {
+        part.link(j, l)
+    });
+    new.coupling_count = lay(
+        &arm.couplings,
+        arm.coupling_count,
+        &mut new.couplings,
+        |_, c| part.coupling(c),
+    );
+    new.rows = part.rows(arm, &arm.rows);
     new
 }
