@@ -6,14 +6,13 @@ use native.Mathlib.Omega.{arith}
 use lib.ListN.{length, length-set, take, get_or, set}
 use lib.Seq.{get_or-set_same, get_or-set_other, take-set-le, take-take}
 use lib.Ieee.{Float}
-use Rattle.kinematics.specs.Inner.{turned_out, refresh_one}
+use Rattle.kinematics.specs.Inner.{Turned, turned_out, refresh_one}
 use Rattle.lists.proofs.Lists.{any_default, map-take}
 use Rattle.limits.specs.Limits.{link_limit}
 use Rattle.masks.specs.Starts.{total_of, start_of}
 use Rattle.arm.specs.declared.Arm.{Arm}
 use Rattle.arm.specs.declared.Link.{Link}
 use Rattle.arm.specs.Arm.{live_links, links_of, masks_of, locked_of, no_link, link_at}
-use Rattle.kinematics.specs.declared.Turned.{Turned}
 use Rattle.kinematics.specs.State.{only}
 use Rattle.kinematics.specs.Answers.{refresh_marked}
 use Rattle.kinematics.proofs.One.{as_marked, one_marked}

@@ -14,7 +14,8 @@ use Rattle.planar.specs.Poses.{finite_point}
 use Rattle.arm.specs.declared.Link.{Link}
 use Rattle.arm.specs.declared.Arm.{Arm}
 use Rattle.arm.specs.Arm.{live_links, links_of, locked_of, masks_of, no_link, link_at}
-use Rattle.arm.specs.HandedIn.{joint_finite, link_finite, link_angle_fits}
+use Rattle.multibody_joint.specs.Joint.{joint_finite}
+use Rattle.arm.specs.HandedIn.{link_finite, link_angle_fits}
 use Rattle.kinematics.specs.Link.{finite_place}
 use Rattle.limits.specs.Limits.{link_limit}
 use Rattle.arm.proofs.Relinked.{standing, still_accepted}

@@ -6,6 +6,7 @@ use mathlib.Core.List.{List}
 use native.Mathlib.Omega.{arith}
 use lib.Dec.{eqb, ltb}
 use lib.ListN.{length}
+use Rattle.std.specs.Float.{float_is_finite}
 use lib.Ieee.{Float, nan, inf, fin, unlike, add, sub, neg, mul}
 use Rattle.arm.specs.Arm.{link_at}
 use Rattle.lists.proofs.Bools.{both_hold, both}
@@ -27,11 +28,12 @@ differ : {A : Type 0} → ◌≡◌ {A = Bool} false true → A
 differ e = let z : ◌≡◌ {A = ℕ} 0 1 = cc in absurd (omega arith)
 
 neither : {A : Type 0} (b s : Bool) → is_finite (cond b nan (inf s)) ≡ true → A
+unfolding float_is_finite
 neither true s h = differ h
 neither false s h = differ h
 
 of_minus : (x y : Float) → is_finite (minus x y) ≡ true → (is_finite x ≡ true) × (is_finite y ≡ true)
-unfolding sub add neg
+unfolding sub add neg float_is_finite
 of_minus nan y h = differ h
 of_minus (inf s) nan h = differ h
 of_minus (inf true) (inf true) h = differ h
@@ -44,7 +46,7 @@ of_minus (fin s m e) (inf t) h = differ h
 of_minus (fin s m e) (fin t n d) h = (refl, refl)
 
 of_times : (x y : Float) → is_finite (times x y) ≡ true → (is_finite x ≡ true) × (is_finite y ≡ true)
-unfolding mul
+unfolding mul float_is_finite
 of_times nan y h = differ h
 of_times (inf s) nan h = differ h
 of_times (inf s) (inf t) h = differ h

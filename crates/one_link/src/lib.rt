@@ -8,6 +8,7 @@ use floats::is_finite_part;
 use limits::BLOCK;
 
 // Rule 7 on the tables: a link's parent's block is read whole, as far as it is lent; a first link reads none.
+#[tactic(auto, unfolding(crate::specs::Above::above_finite))]
 pub fn is_finite_above(link: usize, parent: u32, tables: &[f32]) -> bool
     ensures { result ≡ above_finite link parent tables.now }
 {
