@@ -54,7 +54,7 @@ pub extern "C" fn giellavor_solve(
 ) -> Counted
     ensures { solved result res.new ≡ solved_by n (solve_of n matrix.now right.now res.old) }
 {
-    solve::solve(n, matrix, right, res).map(|()| n).into()
+    solve::solve(n, matrix, right, res).and(Ok(n)).into()
 }
 
 // ---- Making an arm
