@@ -3,19 +3,19 @@ use Prim.Native.Nat.{ℕ, ◌≤◌, ◌<◌}
 use mathlib.Core.Path.{◌≡◌, refl, sym, ap, ◌∙◌}
 use mathlib.Core.Bool.{Bool, true}
 use mathlib.Core.Logic.{inl, inr}
-use mathlib.Core.List.{List}
+use mathlib.Core.List.{List, map}
 use native.Mathlib.Omega.{arith}
 use borrow.Author.Tests.{le-leb, ltb-true, lt-ltb}
 use lib.Dec.{leb}
-use lib.ListN.{length}
+use lib.ListN.{length, length-map}
 use Rattle.refusal.proofs.Laws.{is_lowest, holds_in}
-use Rattle.refusal.specs.Counted.{filled, out}
+use Rattle.refusal.specs.Counted.{filled}
 use Rattle.limits.specs.Limits.{link_limit}
 use Rattle.refusal.specs.Refusal.{lower_of}
 use Rattle.topology.specs.Parents.{parents_fit, branch}
 use Rattle.topology.specs.Answers.{refusal_of, branch_answer}
 use Rattle.arm.specs.declared.Arm.{Arm}
-use Rattle.arm.specs.Arm.{is_link, parents_of}
+use Rattle.arm.specs.Arm.{is_link, parents_of, parent_of}
 use Rattle.arm.specs.HandedIn.{parents_earlier, arm_refusal}
 use Rattle.arm.proofs.Accepted.{accepted, counts_accepted}
 use Rattle.arm.proofs.Live.{parents_live}
@@ -51,3 +51,7 @@ branch_accepted a link ps m w e q =
     rw q
     (ap (λ (k : ℕ). filled k (length b) b m)
     (bare_accepted (parents_of a) link (leb (length b) (length m)) enough few l (accepted a arm).parents ∙ sym e))
+
+-- the array of all parents tells how long the array of links is
+pub whole_by_parents : (a : Arm) (ps : List ℕ) → length ps ≡ link_limit → ps ≡ map parent_of a.links → length a.links ≡ link_limit
+whole_by_parents a ps w e = sym (length-map a.links parent_of) ∙ ap length (sym e) ∙ w

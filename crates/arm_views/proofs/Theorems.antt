@@ -77,7 +77,7 @@ pub view_own : (a : Arm) (role : Role) (link : ℕ) (v w : List Float) → Sized
     → OwnEntries a link (row_of role v w) (view_answer a role link v w).part
 unfolding view_answer
 view_own a role link v w s z =
-    let t = view_within a link (length v) (length w) s.links z in
+    let t = view_within a link (length v) (length w) z in
     rw (shown (view_refusal a link (length v) (length w)) (own_part a link (row_of role v w)) z)
     (own_entries a link (row_of role v w) (in_asked a role link v w t))
 

@@ -60,6 +60,7 @@ fn spring_refusal(arm: &Arm, link: u32, axis: u32) -> Result<(), Refusal>
 }
 
 // The spring of an axis of a link's joint, locked or not.
+#[tactic(auto, using(crate::proofs::Accepted::spring_placed, crate::proofs::Answers::spring_exit, crate::proofs::Answers::spring_read))]
 pub fn spring(arm: &Arm, link: u32, axis: u32) -> Result<Spring, Refusal>
     ensures { spring_as result ≡ spring_answer arm.now link axis }
 {
@@ -108,7 +109,12 @@ fn mul_refusal(arm: &Arm, link: u32, accelerations: &[f32]) -> Result<(), Refusa
 }
 
 // The accelerations of a link's joint, which begin with the link's own, put on their axes.
-pub fn jacobian_mul_coordinates(arm: &Arm, link: u32, accelerations: &[f32]) -> Result<[f32; 3], Refusal>
+#[tactic(auto, using(crate::proofs::Accepted::mul_placed, crate::proofs::Answers::axes_exit, crate::proofs::Answers::axes_read))]
+pub fn jacobian_mul_coordinates(
+    arm: &Arm,
+    link: u32,
+    accelerations: &[f32],
+) -> Result<[f32; 3], Refusal>
     ensures { axes_as result ≡ mul_answer arm.now link accelerations.now }
 {
     mul_refusal(arm, link, accelerations)?;
@@ -160,6 +166,7 @@ fn branch_refusal(arm: &Arm, link: u32, room: usize) -> Result<(), Refusal>
 }
 
 // The links from the root to a link, a byte each, written into lent memory, with their count.
+#[tactic(auto, using(refusal::proofs::Answers::filled_exit), unfolding(crate::specs::Branch::arm_branch))]
 pub fn kinematic_branch(arm: &Arm, link: u32, to: &mut [u8]) -> Result<usize, Refusal>
     ensures { out (counted result) to.new ≡ arm_branch arm.now link to.old }
 {
@@ -177,8 +184,24 @@ pub enum Role {
     Accelerations,
 }
 
+impl Role {
+    fn row<'a>(self, velocities: &'a [f32], accelerations: &'a [f32]) -> &'a [f32]
+        ensures { result.now ≡ row_of self velocities.now accelerations.now }
+    {
+        match self {
+            Role::Velocities => velocities,
+            Role::Accelerations => accelerations,
+        }
+    }
+}
+
 #[tactic(auto, unfolding(crate::specs::View::view_refusal))]
-fn view_refusal(arm: &Arm, link: u32, velocities: usize, accelerations: usize) -> Result<(), Refusal>
+fn view_refusal(
+    arm: &Arm,
+    link: u32,
+    velocities: usize,
+    accelerations: usize,
+) -> Result<(), Refusal>
     ensures { code result ≡ view_refusal arm.now link velocities accelerations }
 {
     let n = arm.dof_count();
@@ -190,6 +213,7 @@ fn view_refusal(arm: &Arm, link: u32, velocities: usize, accelerations: usize) -
 }
 
 // A link's own part of the velocities or of the accelerations. No lent float is read.
+#[tactic(auto, using(crate::proofs::Views::seen_exit, crate::proofs::Views::view_fits, crate::proofs::Views::view_room, crate::proofs::Views::seen_read))]
 pub fn row_view<'a>(
     arm: &Arm,
     role: Role,
@@ -200,19 +224,8 @@ pub fn row_view<'a>(
     ensures { seen_as result ≡ view_answer arm.now role link velocities.now accelerations.now }
 {
     view_refusal(arm, link, velocities.len(), accelerations.len())?;
+    let row = role.row(velocities, accelerations);
     let start = arm.start_of(link as usize);
     let end = start + dofs(arm.mask_at(link as usize));
-    Ok(match role {
-        Role::Velocities => &velocities[start..end],
-        Role::Accelerations => &accelerations[start..end],
-    })
-}
-
-// Where a link's own part of a lent row stands in it, as C is told; zeros where refused.
-#[repr(C)]
-#[derive(Clone, Copy)]
-pub struct RowPart {
-    pub refusal: u8,
-    pub offset: usize,
-    pub length: usize,
+    Ok(&row[start..end])
 }
