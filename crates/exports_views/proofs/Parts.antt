@@ -5,34 +5,33 @@ use mathlib.Core.List.{List, [], ◌∷◌}
 use native.Mathlib.Omega.{arith}
 use lib.ListN.{length, take, drop}
 use lib.Ieee.{Float}
+use Rattle.std.specs.Prelude.{Result, Ok, Err}
+use Rattle.std.specs.Borrow.{Bor}
+use Rattle.refusal.specs.declared.Refusal.{Refusal}
+use Rattle.refusal.specs.Refusal.{number}
+use Rattle.refusal.proofs.Number.{number-suc}
 use Rattle.masks.specs.Masks.{dofs_of}
 use Rattle.arm.specs.declared.Arm.{Arm}
 use Rattle.arm.specs.Arm.{mask_at, start_at, own_part}
 use Rattle.arm_views.specs.declared.Role.{Role}
-use Rattle.arm_views.specs.View.{Seen, seen, row_of, view_refusal, view_by, view_answer}
+use Rattle.arm_views.specs.View.{Seen, seen_as, row_of, view_refusal, view_by, view_answer}
 use Rattle.arm_views.specs.declared.RowPart.{RowPart}
 use Rattle.exports_views.specs.Place.{placed, place_of}
 
-placed_some : (n start m : ℕ) → (n ≡ 0 → ⊥) → ◌≡◌ {A = RowPart} (record { refusal = n; offset = 0; length = 0 }) (placed n start m)
-unfolding placed
-placed_some zero start m h = absurd (h refl)
-placed_some (suc k) start m h = refl
-
-placed_none : (n start m : ℕ) → n ≡ 0 → ◌≡◌ {A = RowPart} (record { refusal = 0; offset = start; length = m }) (placed n start m)
-unfolding placed
-placed_none zero start m h = refl
-placed_none (suc k) start m h = absurd (omega arith)
-
-module _ (a : Arm) (role : Role) (link : ℕ) (v w part : List Float) (n : ℕ) (e : seen part n ≡ view_answer a role link v w) where
-  placed_as : placed n (start_at a link) (length part) ≡ place_of a role link v w
+-- what the view answers, by its place
+module _ (a : Arm) (role : Role) (link : ℕ) (v w : List Float) (t : Result (Bor (List Float)) Refusal) (e : seen_as t ≡ view_answer a role link v w) where
+  placed_as : placed (seen_as t).refusal (start_at a link) (length (seen_as t).part) ≡ place_of a role link v w
   unfolding place_of
   placed_as = ap (λ (s : Seen). placed s.refusal (start_at a link) (length s.part)) e
 
-  pub refused_part : (n ≡ 0 → ⊥) → ◌≡◌ {A = RowPart} (record { refusal = n; offset = 0; length = 0 }) (place_of a role link v w)
-  refused_part h = placed_some n (start_at a link) (length part) h ∙ placed_as
+  pub refused_part : (r : Refusal) → t ≡ Err r → ◌≡◌ {A = RowPart} (record { refusal = number r; offset = 0; length = 0 }) (place_of a role link v w)
+  unfolding placed
+  refused_part r p = rw (number-suc r) refl ∙ rw (p, number-suc r) at placed_as
 
-  pub seen_part : n ≡ 0 → (start : ℕ) → start ≡ start_at a link → ◌≡◌ {A = RowPart} (record { refusal = 0; offset = start; length = length part }) (place_of a role link v w)
-  seen_part z start s = rw s (placed_none n (start_at a link) (length part) z ∙ placed_as)
+  pub seen_part : (part : Bor (List Float)) → t ≡ Ok part → (start : ℕ) → start ≡ start_at a link
+      → ◌≡◌ {A = RowPart} (record { refusal = 0; offset = start; length = length part.now }) (place_of a role link v w)
+  unfolding placed
+  seen_part part p start q = rw q (rw p at placed_as)
 
 -- ---- the asked row, cut at the place, is the part that the view returns
 

@@ -124,8 +124,9 @@ pub extern "C" fn giellavor_layout_coupling(
 pub extern "C" fn giellavor_layout_row(entry: f32) -> Row
     ensures { result ≡ laid_row entry }
 {
-    let entries = [entry; DOFS];
-    Row { entries }
+    Row {
+        entries: [entry; DOFS],
+    }
 }
 
 #[unsafe(no_mangle)]
@@ -138,15 +139,12 @@ pub extern "C" fn giellavor_layout_arm(
 ) -> Arm
     ensures { result ≡ laid_arm link_count coupling_count link coupling row }
 {
-    let links = [link; LINKS];
-    let couplings = [coupling; COUPLINGS];
-    let rows = [row; 5];
     Arm {
         link_count,
         coupling_count,
-        links,
-        couplings,
-        rows,
+        links: [link; LINKS],
+        couplings: [coupling; COUPLINGS],
+        rows: [row; 5],
     }
 }
 

@@ -2,8 +2,8 @@
 use Rattle.exports_views.proofs.Parts.{refused_part, seen_part}
 use Rattle.exports_views.proofs.row_part.Goals as goal
 
-pub returns-then-refusal-ne0 : goal.returns-then-refusal-ne0
-returns-then-refusal-ne0 c = refused_part _ _ _ _ _ _ _ c.row_view-part.ensures c.if-refusal-ne0.true
+pub returns-in-Ok : goal.returns-in-Ok
+returns-in-Ok c = seen_part _ _ _ _ _ c.row_view.result c.row_view.ensures _ c.in-Ok.is _ c.start_of.ensures
 
-pub returns : goal.returns
-returns c = seen_part _ _ _ _ _ _ _ c.row_view-part.ensures c.if-refusal-ne0.false _ c.start_of.ensures
+pub returns-in-Err : goal.returns-in-Err
+returns-in-Err c = ?
