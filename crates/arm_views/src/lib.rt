@@ -229,3 +229,12 @@ pub fn row_view<'a>(
     let end = start + dofs(arm.mask_at(link as usize));
     Ok(&row[start..end])
 }
+
+// Where a link's own part of a lent row stands in it, as C is told; zeros where refused.
+#[repr(C)]
+#[derive(Clone, Copy)]
+pub struct RowPart {
+    pub refusal: u8,
+    pub offset: usize,
+    pub length: usize,
+}

@@ -1,6 +1,6 @@
 -- A part by its place: `row_part` puts a view's answer as offset and length, and the asked row cut there is the view's own part. Assumes nothing.
 use Prim.Native.Nat.{ℕ, zero, suc}
-use mathlib.Core.Path.{◌≡◌, refl, ap, ◌∙◌}
+use mathlib.Core.Path.{◌≡◌, refl, ap}
 use mathlib.Core.List.{List, [], ◌∷◌}
 use native.Mathlib.Omega.{arith}
 use lib.ListN.{length, take, drop}
@@ -24,9 +24,9 @@ module _ (a : Arm) (role : Role) (link : ℕ) (v w : List Float) (t : Result (Bo
   unfolding place_of
   placed_as = ap (λ (s : Seen). placed s.refusal (start_at a link) (length s.part)) e
 
-  pub refused_part : (r : Refusal) → t ≡ Err r → ◌≡◌ {A = RowPart} (record { refusal = number r; offset = 0; length = 0 }) (place_of a role link v w)
+  pub refused_part : (r : Refusal) → t ≡ Err r → (k : ℕ) → k ≡ number r → ◌≡◌ {A = RowPart} (record { refusal = k; offset = 0; length = 0 }) (place_of a role link v w)
   unfolding placed
-  refused_part r p = rw (number-suc r) refl ∙ rw (p, number-suc r) at placed_as
+  refused_part r p k q = rw (q, number-suc r) (rw (p, number-suc r) at placed_as)
 
   pub seen_part : (part : Bor (List Float)) → t ≡ Ok part → (start : ℕ) → start ≡ start_at a link
       → ◌≡◌ {A = RowPart} (record { refusal = 0; offset = start; length = length part.now }) (place_of a role link v w)
