@@ -1,4 +1,3 @@
-pub mod Sets
 pub mod Leaf
 pub mod Changed
 pub mod Move

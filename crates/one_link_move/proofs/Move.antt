@@ -1,6 +1,6 @@
 -- Demand 3 of the one-link move: its marks are the links at or below the moved one, so that every other link keeps its inputs and its parent's results.
 -- Assumes nothing.
-use Prim.Native.Nat.{ℕ, ◌<◌}
+use Prim.Native.Nat.{ℕ, ◌≤◌, ◌<◌}
 use mathlib.Core.Path.{◌≡◌, refl, sym, ap, subst, ◌∙◌}
 use mathlib.Core.Logic.{◌≢◌}
 use mathlib.Core.Bool.{Bool, true, false, ◌&&◌, true≢false}
@@ -9,12 +9,12 @@ use native.Mathlib.Omega.{arith}
 use native.Mathlib.Decide.{dec_lt}
 use borrow.Author.Tests.{ltb-true}
 use lib.Dec.{ltb}
-use lib.ListN.{length}
+use lib.ListN.{length, get_or}
 use lib.Ieee.{Float}
 use Rattle.one_link.specs.Promise.{RestKept, Right}
 use Rattle.arm.specs.Setters.{with_links}
 use Rattle.lists.proofs.Every.{same_tests}
-use Rattle.lists.proofs.Lists.{same_map, same_front}
+use Rattle.lists.proofs.Lists.{any_default, same_map, same_front}
 use Rattle.arm.specs.Sized.{Sized}
 use Rattle.lists.proofs.Modified.{length-modify, modify_same, modify_other, modify_field, modify_tests}
 use Rattle.lists.specs.Tests.{every}
@@ -33,7 +33,7 @@ use Rattle.arm.specs.declared.Arm.{Arm}
 use Rattle.arm.specs.Arm.{live_links, links_of, couplings_of, tag_of, tags_of, parents_of, masks_of, dof_count_of, entries_to, rows_of, no_link, link_at, locked_of, parent_of}
 use Rattle.limits.specs.Limits.{link_limit}
 use Rattle.arm.specs.HandedIn.{unique, tags_unique, parents_earlier, link_masks_fit, root_mask_fits, root_fits, link_finite, rows_finite, link_angle_fits, arm_refusal}
-use Rattle.arm.proofs.Accepted.{counts_accepted, Accepted}
+use Rattle.arm.proofs.Accepted.{counts_accepted, accepted, Accepted}
 use Rattle.kinematics.specs.Blocks.{block_at}
 use Rattle.kinematics.specs.Link.{finite_kept}
 use Rattle.kinematics.specs.State.{state, inputs_of, kept_at, kept_ops, marked, parent_at}
@@ -56,6 +56,7 @@ pub record Passed (a : Arm) (link : ℕ) (change : Change) : Type 0 where
   pub there : link < a.link_count
   floats : change_finite change ≡ true
   angle : angle_within change ≡ true
+  pub arm : arm_refusal a ≡ 0
 
 pub passed : (a : Arm) (t : List Float) (link : ℕ) (change : Change) → move_refusal a t link change ≡ 0 → Passed a link change
 unfolding move_refusal
@@ -67,15 +68,24 @@ passed a t link change e =
       there = ltb-true link a.link_count (holds (ltb link a.link_count) 3 p₄.0);
       floats = (both_hold _ _ (holds (change_finite change && above_finite link (parent_in (parents_of a) link) t) 6 p₇.0)).0;
       angle = holds (angle_within change) 8 p₉.0;
+      arm = p₉.1;
     }
 
--- the link is one that an arm may have
-pub within_limit : (a : Arm) (t : List Float) (link : ℕ) (change : Change) → move_refusal a t link change ≡ 0 → link < link_limit
-unfolding move_refusal arm_refusal
-within_limit a t link change e =
-    let p₇ = none_of _ _ (none_of _ _ (none_of _ _ (none_of _ _ (none_of _ _ e).1).1).1).1 in
-    let p = (none_of _ _ (none_of _ _ p₇.1).1).1 in
-    omega (arith, (passed a t link change e).there, (counts_accepted a p).0)
+-- so the link is one that an arm may have, as its parent is
+module _ (a : Arm) (t : List Float) (link : ℕ) (change : Change) (none : move_refusal a t link change ≡ 0) where
+  pub count_small : a.link_count ≤ link_limit
+  count_small = (counts_accepted a (passed a t link change none).arm).0
+
+  pub within_limit : link < link_limit
+  within_limit = omega (arith, (passed a t link change none).there, count_small)
+
+  pub parent_small : length a.links ≡ link_limit → (d l : Link) → l ≡ changed change (get_or a.links link d) → l.parent ≤ link
+  unfolding parent_at
+  parent_small whole d l e =
+      let k = passed a t link change none in
+      let same : l.parent ≡ (get_or a.links link d).parent = ap (λ (x : Link). x.parent) e ∙ same_parent change (get_or a.links link d) in
+      let real = any_default a.links link d no_link (omega (arith, within_limit)) in
+      omega (arith, same, ap (λ (x : Link). x.parent) real, parent_le a whole count_small (accepted a k.arm).parents link k.there)
 
 module _ (a : Arm) (t : List Float) (sized : Sized a) (settled : Settled a t) (link : ℕ) (change : Change) (k : Passed a link change) where
   facts_of : Facts a t

@@ -4,7 +4,8 @@
 
 ghost use Rattle.std.specs.Prelude.{◌≡◌};
 ghost use Rattle.refusal.specs.Refusal.{code};
-ghost use Rattle.arm.specs.Arm.{links_of};
+ghost use Rattle.topology.specs.Parents.{parent_in};
+ghost use Rattle.arm.specs.Arm.{links_of, parents_of};
 ghost use Rattle.arm.specs.Edits.{edited_as};
 ghost use Rattle.full_working.specs.Outcome.{out};
 ghost use Rattle.one_link_move.specs.Inner.{leaf};
@@ -133,19 +134,26 @@ impl Change {
 
 // ---- The move
 
+// The parent of a link; where there is no such link, 0.
+#[tactic(auto, unfolding(arm::specs::Arm::parents_of))]
+fn parent_of(arm: &Arm, link: usize) -> u8
+    ensures { result ≡ parent_in (parents_of arm.now) link }
+{
+    arm.live_links().get(link).map_or(0, |link| link.parent)
+}
+
 #[tactic(auto, unfolding(crate::specs::Move::move_refusal))]
 fn move_refusal(arm: &Arm, tables: &[f32], link: u32, change: &Change) -> Result<(), Refusal>
     ensures { code result ≡ move_refusal arm.now tables.now link change.now }
 {
     let at = link as usize;
-    let parent = arm.live_links().get(at).map_or(0, |link| link.parent);
     lowest(&[
         unless(tables_fit(tables), Refusal::Memory),
         unless(at < arm.link_count, Refusal::Link),
         unless(change.axis_fits(), Refusal::Mask),
         unless(change.axis_free(arm.mask_at(at)), Refusal::Locked),
         unless(
-            change.is_finite() & is_finite_above(at, u32::from(parent), tables),
+            change.is_finite() & is_finite_above(at, u32::from(parent_of(arm, at)), tables),
             Refusal::NotFinite,
         ),
         unless(change.turns_fit(), Refusal::NotATurn),
