@@ -1,15 +1,13 @@
 -- What is set of an arm for a new link: its row entries and its mark. Assumes nothing.
-use Prim.Native.Nat.{ℕ, ◌+◌, ◌≤◌, ◌<◌}
-use mathlib.Core.Path.{◌≡◌, ap, ◌∙◌}
-use mathlib.Core.List.{List, map}
+use Prim.Native.Nat.{ℕ, zero, suc, ◌+◌, ◌≤◌, ◌<◌}
+use native.Mathlib.Numerals.{add-one}
+use mathlib.Core.Path.{◌≡◌, refl, ap, ◌∙◌}
+use mathlib.Core.List.{List, [], ◌∷◌, ◌++◌, map}
 use native.Mathlib.Omega.{arith}
 use borrow.Author.Tests.{le-leb}
-use lib.ListN.{length, get_or, set, take, length-map}
+use lib.ListN.{length, get_or, set, take, drop}
 use lib.Ieee.{Float}
-use Rattle.floats.specs.Inner.{copied_part}
-use Rattle.floats.proofs.Parts.{copied_fits}
 use Rattle.lists.proofs.Modified.{set-modify}
-use Rattle.lists.proofs.Lists.{filled_all}
 use Rattle.lists.specs.Lists.{laid, modify}
 use Rattle.refusal.specs.Counted.{Outcome, out, filled}
 use Rattle.refusal.specs.declared.Counted.{Counted}
@@ -40,22 +38,33 @@ module _ (mask : ℕ) (h : mask ≤ 7) where
       ap (λ (o : Outcome Float). o.memory) e
       ∙ ap (λ (k : ℕ). (filled k (dofs_of mask) (damping_row mask) zeros).memory) none_refused
 
--- ---- a row's entries
+-- ---- the rows, as a loop changes one after the other by f
 
-pub entries_set_lem : (row : Row) (start n : ℕ) (values z : List Float) → start + n ≤ length row.entries → n ≤ length values
-    → z ≡ copied_part start 0 n row.entries values → ◌≡◌ {A = Row} (record { entries = z }) (entries_set start n values row)
-unfolding entries_set
-entries_set_lem row start n values z h l e = ap (λ (s : List Float). record { entries = s }) (e ∙ copied_fits start 0 n row.entries values h (omega arith))
+module _ {A : Type 0} (f : A → A) where
+  abbrev pub changed : ℕ → List A → List A
+  changed i xs = map f (take i xs) ++ drop i xs
 
--- ---- the rows
+  changed_suc : (i : ℕ) (xs : List A) (d : A) → i < length xs → set (changed i xs) i (f (get_or (changed i xs) i d)) ≡ changed (suc i) xs
+  changed_suc i [] d h = absurd (omega arith)
+  changed_suc zero (x ∷ xs) d h = refl
+  changed_suc (suc i) (x ∷ xs) d h = ap (λ (l : List A). f x ∷ l) (changed_suc i xs d (omega arith))
+
+  pub changed_more : (i : ℕ) (xs l : List A) (d v : A) → l ≡ changed i xs → i < length xs → v ≡ f (get_or l i d) → set l i v ≡ changed (i + 1) xs
+  changed_more i xs l d v e h p = rw (p, e, add-one) (changed_suc i xs d h)
+
+  pub changed_all : (i : ℕ) (xs : List A) → length xs ≤ i → changed i xs ≡ map f xs
+  changed_all zero [] h = refl
+  changed_all (suc i) [] h = refl
+  changed_all zero (x ∷ xs) h = absurd (omega arith)
+  changed_all (suc i) (x ∷ xs) h = ap (λ (l : List A). f x ∷ l) (changed_all i xs (omega arith))
 
 -- every row has its zeros, and the damping row its own
-pub rows_with_lem : (given : List Row) (mask start n k i : ℕ) (rows : List Row) (values : List Float) (d v : Row) → length given ≡ 5 → length rows ≡ 5 → n ≡ dofs_of mask
-    → k ≡ row_number Damping → 5 ≤ i → take i rows ≡ take i (map (entries_set start n zeros) given) → values ≡ laid (damping_row mask) zeros
+pub rows_with_lem : (given : List Row) (mask start n k i : ℕ) (rows : List Row) (values : List Float) (d v : Row) → n ≡ dofs_of mask → k ≡ row_number Damping
+    → length given ≤ i → rows ≡ changed (entries_set start n zeros) i given → values ≡ laid (damping_row mask) zeros
     → v ≡ entries_set start n values (get_or rows k d) → set rows k v ≡ rows_from start mask given
-rows_with_lem given mask start n k i rows values d v w l en ek h p ev q =
+rows_with_lem given mask start n k i rows values d v en ek h p ev q =
     set-modify (entries_set start n values) rows k d v q
-    ∙ ap (modify (entries_set start n values) k) (filled_all (map (entries_set start n zeros) given) rows i (omega arith) (omega (arith, length-map given (entries_set start n zeros))) p)
+    ∙ ap (modify (entries_set start n values) k) (p ∙ changed_all (entries_set start n zeros) i given h)
     ∙ (λ r. modify (entries_set start (en r) (ev r)) (ek r) (map (entries_set start (en r) zeros) given))
 
 -- there is room for three entries more

@@ -8,6 +8,7 @@ use lib.Dec.{eqb}
 use lib.ListN.{length, take, drop}
 use lib.Seq.{take_at, length-take-le}
 use lib.Ieee.{Float, binary32, of_bits, of_fields, lt}
+use Rattle.std.specs.Float.{float_is_finite}
 use Rattle.multibody_joint.specs.Joint.{zeros, new_joint, joint_finite}
 use Rattle.arm.specs.Setters.{unplaced}
 use Rattle.arm.specs.Inner.{row_finite}
@@ -28,11 +29,11 @@ use Rattle.addition.specs.Addition.{floats_finite}
 -- ---- the numbers
 
 one_finite : is_finite one32 ≡ true
-unfolding of_bits of_fields
+unfolding of_bits of_fields float_is_finite
 one_finite = refl
 
 damping_finite : (axis : ℕ) → is_finite (damping_of axis) ≡ true
-unfolding damping_of of_bits of_fields
+unfolding damping_of of_bits of_fields float_is_finite
 damping_finite axis = go (eqb axis 2)
   where
     go : (b : Bool) → is_finite (cond b (of_bits binary32 0x3DCC_CCCD) (of_bits binary32 0)) ≡ true

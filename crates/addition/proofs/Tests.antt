@@ -1,40 +1,44 @@
 -- What is tested of a new link, as the code does; and what an addition that is not refused knows. Assumes nothing.
 use Prim.Native.Nat.{ℕ, zero, suc, ◌≤◌, ◌<◌}
-use mathlib.Core.Path.{◌≡◌, refl}
-use mathlib.Core.Bool.{true, ◌&&◌, ◌||◌}
+use mathlib.Core.Path.{◌≡◌, refl, sym}
+use mathlib.Core.Bool.{true, not, ◌&&◌, ◌||◌, and-true}
 use mathlib.Core.List.{List}
 use native.Mathlib.Omega.{arith}
-use borrow.Author.Tests.{leb-true, ltb-true, eqb-true}
+use borrow.Author.Tests.{leb-true, ltb-true, eqb-true, ne_eqb}
 use lib.Dec.{eqb, ltb}
 use lib.Ieee.{Float}
-use Rattle.addition.specs.Inner.{Small}
+use Rattle.addition.specs.Inner.{Small, tag_differs}
+use Rattle.lists.specs.Tests.{every}
+use Rattle.lists.proofs.Every.{every_map}
 use Rattle.lists.proofs.Bools.{both_hold}
 use Rattle.limits.specs.Limits.{link_limit}
 use Rattle.refusal.proofs.Tests.{holds}
 use Rattle.refusal.proofs.Laws.{none_of}
 use Rattle.topology.specs.Parents.{parent_fits}
 use Rattle.arm.specs.declared.Arm.{Arm}
-use Rattle.arm.specs.Arm.{tags_of}
-use Rattle.arm.specs.HandedIn.{is_new, arm_refusal}
+use Rattle.arm.specs.Arm.{links_of, tag_of, tags_of}
+use Rattle.arm.specs.HandedIn.{differs, is_new, arm_refusal}
 use Rattle.full_working.specs.Outcome.{tables_fit}
 use Rattle.one_link.specs.Above.{above_finite}
 use Rattle.addition.specs.declared.NewLink.{NewLink}
 use Rattle.addition.specs.Addition.{each_mask, masks_fit, floats_finite, add_refusal}
 
+-- ---- the tag
+
+pub tag_differs_every : (a : Arm) (tag : ℕ) → every (tag_differs tag) (links_of a) ≡ is_new tag (tags_of a)
+unfolding tags_of
+tag_differs_every a tag = sym (every_map (differs tag) tag_of (links_of a))
+
 -- ---- the masks
 
 module _ (link : ℕ) (new : NewLink) where
-  pub first_masks : link ≡ 0 → (each_mask new && (eqb new.locked 7 || eqb new.locked 0)) ≡ masks_fit link new
+  pub tested_masks : (each_mask new && ((not (eqb link 0) || eqb new.locked 7) || eqb new.locked 0)) ≡ masks_fit link new
   unfolding masks_fit
-  first_masks h = rw h
-
-  pub later_masks : (link ≡ 0 → ⊥) → each_mask new ≡ masks_fit link new
-  unfolding masks_fit
-  later_masks h = go link h
+  tested_masks = go link
     where
-      go : (n : ℕ) → (n ≡ 0 → ⊥) → each_mask new ≡ masks_fit n new
-      go zero g = absurd (g refl)
-      go (suc n) g = refl
+      go : (n : ℕ) → (each_mask new && ((not (eqb n 0) || eqb new.locked 7) || eqb new.locked 0)) ≡ masks_fit n new
+      go zero = refl
+      go (suc n) = rw (ne_eqb (suc n) 0 (omega arith)) (and-true (each_mask new))
 
   pub are_masks : masks_fit link new ≡ true → each_mask new ≡ true
   unfolding masks_fit
@@ -46,10 +50,10 @@ module _ (link : ℕ) (new : NewLink) where
 
 -- ---- not refused
 
-parent_small : (n p : ℕ) → n < link_limit → parent_fits n p ≡ true → p ≤ link_limit
+pub parent_le : (n p : ℕ) → parent_fits n p ≡ true → p ≤ n
 unfolding parent_fits
-parent_small zero p h e = let q = eqb-true p 0 e in omega arith
-parent_small (suc n) p h e = let q = ltb-true p (suc n) e in omega arith
+parent_le zero p e = let q = eqb-true p 0 e in omega arith
+parent_le (suc n) p e = let q = ltb-true p (suc n) e in omega arith
 
 -- what an addition that is not refused passed
 pub record Passed (a : Arm) (t : List Float) (new : NewLink) : Type 0 where
@@ -88,7 +92,7 @@ module _ (a : Arm) (t : List Float) (new : NewLink) where
       let m = both_hold _ _ (are_masks a.link_count new p.masks) in
       let k = both_hold _ _ m.0 in
       record {
-        parent = parent_small a.link_count new.parent p.room p.parent;
+        parent = omega (arith, p.room, parent_le a.link_count new.parent p.parent);
         locked = leb-true new.locked 7 k.0;
         limit = leb-true new.limit 7 k.1;
         motor = leb-true new.motor 7 m.1;

@@ -3,12 +3,13 @@
 #![tactic(auto)]
 
 ghost use Rattle.std.specs.Prelude.{◌≡◌, ◌+◌, ◌≤◌};
+ghost use Rattle.lists.specs.Tests.{every};
 ghost use Rattle.refusal.specs.Refusal.{code};
 ghost use Rattle.limits.specs.Limits.{dof_limit};
 ghost use Rattle.arm.specs.Edits.{edited_as};
 ghost use Rattle.full_working.specs.Outcome.{out};
-ghost use Rattle.addition.specs.Inner.{Small};
-ghost use Rattle.addition.specs.NewLink.{link_of, rows_from};
+ghost use Rattle.addition.specs.Inner.{Small, tag_differs};
+ghost use Rattle.addition.specs.NewLink.{link_of, entries_set, rows_from};
 ghost use Rattle.addition.specs.Addition.{masks_fit, floats_finite, turns_fit, add_refusal, link_added};
 
 use arm::{Arm, Link, Row, RowName};
@@ -68,7 +69,14 @@ impl Finite for NewLink {
     }
 }
 
-#[tactic(auto, unfolding(crate::specs::Addition::add_refusal))]
+// Rule 3: is it none of their tags?
+fn is_new_tag(links: &[Link], tag: u32) -> bool
+    ensures { result ≡ every (tag_differs tag) links.now }
+{
+    links.iter().all(|link| link.tag != tag)
+}
+
+#[tactic(auto, using(crate::proofs::Tests::tag_differs_every), unfolding(crate::specs::Addition::add_refusal))]
 fn add_refusal(arm: &Arm, tables: &[f32], new: &NewLink) -> Result<(), Refusal>
     ensures { code result ≡ add_refusal arm.now tables.now new.now }
 {
@@ -76,10 +84,7 @@ fn add_refusal(arm: &Arm, tables: &[f32], new: &NewLink) -> Result<(), Refusal>
     lowest(&[
         unless(tables_fit(tables), Refusal::Memory),
         unless(n < LINKS, Refusal::Limit),
-        unless(
-            arm.live_links().iter().all(|link| link.tag != new.tag),
-            Refusal::Tag,
-        ),
+        unless(is_new_tag(arm.live_links(), new.tag), Refusal::Tag),
         unless(parent_fits(n, new.parent as usize), Refusal::Link),
         unless(new.masks_fit(n), Refusal::Mask),
         unless(
@@ -111,17 +116,27 @@ fn link_of(new: &NewLink) -> Link
 
 // ---- Its row entries
 
+// The first n of the values stand in the row from `start` on.
+#[tactic(auto, unfolding(crate::specs::NewLink::entries_set))]
+fn set_entries(row: &mut Row, start: usize, n: usize, values: &[f32; 3])
+    requires { (n ≤ 3) × (start + 3 ≤ dof_limit) }
+    ensures { row.new ≡ entries_set start n values.now row.old }
+{
+    row.entries[start..start + n].copy_from_slice(&values[..n]);
+}
+
 // From `start` on, damping by default, +0 in the other rows.
-fn set_entries(rows: &mut [Row; 5], start: usize, mask: u8)
+fn set_new_entries(rows: &mut [Row; 5], start: usize, mask: u8)
     requires { (mask ≤ 7) × (start + 3 ≤ dof_limit) }
     ensures { rows.new ≡ rows_from start mask rows.old }
 {
-    let end = start + dofs(mask);
+    let n = dofs(mask);
     for row in rows.iter_mut() {
-        row.entries[start..end].fill(0.0);
+        set_entries(row, start, n, &[0.0; 3]);
     }
-    let damping = &mut rows[RowName::Damping.number()].entries[..];
-    let _ = default_damping(u32::from(mask), &mut damping[start..end]);
+    let mut damping = [0.0; 3];
+    let _ = default_damping(u32::from(mask), &mut damping);
+    set_entries(&mut rows[RowName::Damping.number()], start, n, &damping);
 }
 
 // ---- The addition
@@ -136,7 +151,7 @@ pub fn add_link(arm: &mut Arm, tables: &mut [f32], new: NewLink) -> Result<(), R
     let mut link = link_of(&new);
     let above = &arm.links[usize::from(link.parent)];
     refresh_one(&mut link, above, start, n, tables)?;
-    set_entries(&mut arm.rows, start, new.locked as u8);
+    set_new_entries(&mut arm.rows, start, new.locked as u8);
     arm.links[n] = link;
     arm.link_count = n + 1;
     Ok(())
