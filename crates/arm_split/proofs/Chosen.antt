@@ -5,7 +5,9 @@ use mathlib.Core.Bool.{true, false}
 use mathlib.Core.List.{List, ◌++◌}
 use native.Mathlib.Omega.{arith}
 use borrow.Author.Tests.{ltb-true}
-use lib.ListN.{length, take}
+use native.Mathlib.Decide.{dec_lt}
+use lib.ListN.{length, take, length-take, get_or-eq_default}
+use Rattle.lists.proofs.Numbers.{count_le}
 use lib.Seq.{get_or-take, length-take-le}
 use Rattle.full_working.proofs.Refused.{goes_on as go_on}
 use Rattle.part_arm.specs.Inner.{places_in}
@@ -35,20 +37,30 @@ use Rattle.arm_split.specs.Answers.{part_refusal, arm_part}
 use Rattle.topology.specs.Answers.{split_answer}
 use lib.Ieee.{Float}
 
-module _ (a : Arm) (whole : length a.links ≡ link_limit) (all : length a.couplings ≡ coupling_limit) where
+module _ (a : Arm) (whole : length a.links ≡ link_limit) where
   pub link_parent : (j : ℕ) → j < live_links a → parent_in (parents_of a) j ≡ (link_at a.links j).parent
   unfolding parents_of links_of
   link_parent j h =
       map_at parent_of (take (live_links a) a.links) j no_link 0 (omega (arith, length-take-le (live_links a) a.links (omega arith)))
       ∙ ap parent_of (get_or-take (live_links a) a.links j no_link h)
 
-  pub coupling_links : arm_refusal a ≡ 0 → (i : ℕ) → i < min a.coupling_count coupling_limit → ((coupling_at a i).link1 < a.link_count) × ((coupling_at a i).link2 < a.link_count)
-  unfolding couplings_of coupling_links_fit
-  coupling_links e i h =
-      let n = min a.coupling_count coupling_limit in
-      let one = every_at (coupling_links_fit a.link_count) (take n a.couplings) no_coupling (accepted a e).coupled i (omega (arith, length-take-le n a.couplings (omega arith))) in
-      let both = both_hold _ _ (rw (get_or-take n a.couplings i no_coupling h) at one) in
-      (ltb-true _ _ both.0, ltb-true _ _ both.1)
+  -- a coupling that counts names links of the arm, in its place or past the array
+  module _ (e : arm_refusal a ≡ 0) (i : ℕ) (h : i < min a.coupling_count coupling_limit) where
+    pub coupling_links : i < length a.couplings → ((coupling_at a i).link1 < a.link_count) × ((coupling_at a i).link2 < a.link_count)
+    unfolding couplings_of coupling_links_fit
+    coupling_links l =
+        let n = min a.coupling_count coupling_limit in
+        let one = every_at (coupling_links_fit a.link_count) (take n a.couplings) no_coupling (accepted a e).coupled i (simp length-take (omega arith)) in
+        let both = both_hold _ _ (rw (get_or-take n a.couplings i no_coupling h) at one) in
+        (ltb-true _ _ both.0, ltb-true _ _ both.1)
+
+    any_links : 0 < a.link_count → ((coupling_at a i).link1 < a.link_count) × ((coupling_at a i).link2 < a.link_count)
+    any_links some = elim (dec_lt i (length a.couplings)) [
+      | yes l ↦ coupling_links l
+      | no l ↦
+          let past : coupling_at a i ≡ no_coupling = get_or-eq_default a.couplings no_coupling (omega arith) in
+          rw past (some, some)
+    ]
 
   module _ (s : Split) (k : ℕ) (accepted : arm_refusal a ≡ 0) (w : Whole a whole s) (below : k < part_count (parents_of a) s) (rest : List ℕ) where
     here_too : (j : ℕ) → j < live_links a → is_in (parents_of a) s k j ≡ true → is_head (parents_of a) s j ≡ false
@@ -61,6 +73,10 @@ module _ (a : Arm) (whole : length a.links ≡ link_limit) (all : length a.coupl
         subst (λ (q : ℕ). is_in ps s q (parent_in ps j) ≡ true) (sym v.same_part ∙ in_part ps s k j e) (is_in_lem ps s w.fit (parent_in ps j) v.survivor.1) in
         rw (← link_parent j h) (omega (arith, v.survivor.0), here)
 
+    part_heads : 0 < length (parents_of a)
+    unfolding part_count
+    part_heads = omega (arith, count_le (is_head (parents_of a) s) (length (parents_of a)))
+
     agree : Agree a (places_in (split_map (parents_of a) s (length (parents_of a)) ++ rest) k) (places_of a s k)
     agree =
         let ps = parents_of a in
@@ -71,7 +87,10 @@ module _ (a : Arm) (whole : length a.links ≡ link_limit) (all : length a.coupl
           head = λ j h e. head_read ps s w.fit k below few rest j (omega arith) (in_survives ps s w.fit k j e);
           number = λ j h e. number_read ps s w.fit k below few rest j (omega arith) (in_survives ps s w.fit k j e);
           parent = here_too;
-          links = λ i h. (let c = coupling_links accepted i h in (omega (arith, w.few), omega (arith, w.few)));
+          links = λ i h.
+              (let some : 0 < a.link_count = omega (arith, part_heads) in
+              let c = any_links accepted i h some in
+              (omega (arith, w.few), omega (arith, w.few)));
         }
 
     pub part_read : (m : List ℕ) → m ≡ split_map (parents_of a) s (length (parents_of a)) ++ rest → part_arm (places_in m k) a ≡ part_arm (places_of a s k) a

@@ -5,3 +5,4 @@ pub mod Chosen
 pub mod Picked
 pub mod Passing
 pub mod Theorems
+pub mod Made

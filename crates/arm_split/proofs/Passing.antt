@@ -36,7 +36,8 @@ use Rattle.topology.proofs.Theorems.{with_parent, in_part}
 use Rattle.planar.specs.declared.Pose.{Pose}
 use Rattle.planar.specs.Rotation.{is_beyond}
 use Rattle.planar.specs.Poses.{finite_rotation, finite_point, finite_pose, rotation_of, translation_of}
-use Rattle.multibody_joint.specs.Joint.{fixed_joint, new_joint}
+use Rattle.std.specs.Float.{float_is_finite}
+use Rattle.multibody_joint.specs.Joint.{fixed_joint, new_joint, joint_finite}
 use Rattle.arm.specs.declared.Link.{Link}
 use Rattle.arm.specs.declared.Coupling.{Coupling}
 use Rattle.arm.specs.declared.Row.{Row}
@@ -44,7 +45,7 @@ use Rattle.arm.specs.declared.Arm.{Arm}
 use Rattle.arm.specs.Arm.{live_links, links_of, couplings_of, tag_of, locked_of, tags_of, parents_of, masks_of, mask_at, start_at, dof_count_of, entries_to, rows_of, link_at, own_part}
 use Rattle.arm.specs.Arm.{no_link, no_coupling, coupling_at, parent_of}
 use Rattle.arm.specs.HandedIn.{unique, tags_unique, parents_earlier, coupling_links_fit, joint_masks_fit, link_masks_fit, root_mask_fits, root_fits, coupling_axes_fit}
-use Rattle.arm.specs.HandedIn.{joint_finite, link_finite, coupling_finite, rows_finite, angle_fits, link_angle_fits, arm_refusal}
+use Rattle.arm.specs.HandedIn.{link_finite, coupling_finite, rows_finite, angle_fits, link_angle_fits, arm_refusal}
 use Rattle.arm.proofs.Live.{links_live, masks_live, parents_live}
 use Rattle.part_arm.specs.Places.{Places, places_of, goes_on}
 use Rattle.part_arm.specs.Part.{new_link, part_links, part_entries, part_row, coupling_stays, new_coupling, part_couplings, part_arm}
@@ -80,7 +81,7 @@ new_masks true parent l e = refl
 new_masks false parent l e = e
 
 fixed_finite : (p : Pose) → finite_pose p ≡ true → joint_finite (fixed_joint p) ≡ true
-unfolding fixed_joint joint_finite finite_rotation finite_point finite_pose rotation_of translation_of of_bits new_joint
+unfolding fixed_joint joint_finite finite_rotation finite_point finite_pose rotation_of translation_of of_bits new_joint float_is_finite
 fixed_finite p e = both (both (both (both (both e refl) refl) refl) refl) refl
 
 new_finite : (b : Bool) (parent : ℕ) (l : Link) → link_finite l ≡ true → link_finite (new_link b parent l) ≡ true
@@ -239,7 +240,7 @@ module _ (a : Arm) (s : Split) (k : ℕ) (sized : Sized a) (taken : arm_refusal 
       go o false q e =
           let v = with_parent ps s whole.fit o.old (omega (arith, o.there, long), in_survives ps s whole.fit k o.old o.here) q in
           let up : (get_or (part_links p a) i no_link).parent ≡ number_of ps s (parent_in ps o.old) = e
-          ∙ rw (q, link_parent a sized.links sized.couplings o.old o.there) (new_parent _ (at o.old)) in
+          ∙ rw (q, link_parent a sized.links o.old o.there) (new_parent _ (at o.old)) in
           fits_later i _ (omega (arith, v.greater, o.number, up))
 
   parents : parents_earlier (part_arm p a) ≡ true
@@ -264,7 +265,7 @@ module _ (a : Arm) (s : Split) (k : ℕ) (sized : Sized a) (taken : arm_refusal 
       → coupling_links_fit (length (part_links p a)) (new_coupling (number_of ps s) (coupling_at a i)) ≡ true
   unfolding coupling_links_fit new_coupling
   coupling_fits i h e =
-      let l = coupling_links a sized.links sized.couplings taken i h in
+      let l = coupling_links a sized.links taken i h (omega (arith, sized.couplings)) in
       let q = stays_here (coupling_at a i) e in
       both (lt-ltb _ _ (below (coupling_at a i).link1 (omega (arith, whole.few)) q.0)) (lt-ltb _ _ (below (coupling_at a i).link2 (omega (arith, whole.few)) q.1))
 

@@ -9,10 +9,14 @@ use borrow.Author.Tests.{leb-true, ltb-true, le-leb, le-ltb, lt-ltb}
 use lib.Dec.{leb, ltb}
 use lib.ListN.{length, drop}
 use lib.Ieee.{Float}
-use Rattle.refusal.specs.Counted.{counted_of, Outcome, out, filled}
+use Rattle.std.proofs.Common.{Result, Ok, Err, MatchResult}
+use Rattle.std.specs.Result.{IsOkAnd, IsErrAnd, result_unwrap_or}
+use Rattle.refusal.specs.declared.Refusal.{Refusal}
+use Rattle.refusal.specs.Counted.{counted_of, counted, Outcome, out, filled}
+use Rattle.refusal.proofs.Answers.{filled_exit}
 use Rattle.refusal.specs.declared.Counted.{Counted}
 use Rattle.limits.specs.Limits.{link_limit}
-use Rattle.refusal.specs.Refusal.{unless_of, lower_of, lowest, In}
+use Rattle.refusal.specs.Refusal.{code, unless_of, lower_of, lowest, In}
 use Rattle.refusal.proofs.Laws.{is_lowest, first_holds, rest_accepted}
 use Rattle.topology.specs.declared.Split.{Split}
 use Rattle.topology.specs.Parents.{parents_fit}
@@ -47,6 +51,21 @@ pub given_some : (k n : ℕ) (bytes m : List ℕ) → (k ≡ 0 → ⊥) → fill
 unfolding filled counted_of
 given_some zero n bytes m e = absurd (e refl)
 given_some (suc k) n bytes m e = refl
+
+-- ---- what the calls are told: of a count that is left out, and of one that is 0 where there is none
+
+pub code_mapped : (t : Result ℕ Refusal) (r : Result Unit Refusal) (P : ℕ → Unit → Type 0) → MatchResult t (λ n. IsOkAnd r (P n)) (λ e. r ≡ Err e) → code r ≡ code t
+code_mapped (Ok n) (Ok u) P h = refl
+code_mapped (Ok n) (Err e) P h = absurd h
+code_mapped (Err e) r P h = rw h
+
+pub code_counted : (t : Result ℕ Refusal) → code t ≡ (counted t).refusal
+code_counted (Ok n) = refl
+code_counted (Err e) = refl
+
+pub count_counted : (t : Result ℕ Refusal) → result_unwrap_or t 0 ≡ (counted t).count
+count_counted (Ok n) = refl
+count_counted (Err e) = refl
 
 -- ---- small laws of the lowest
 
@@ -199,9 +218,10 @@ module _ (a : Arm) (whole : length a.links ≡ link_limit) (s : Split) where
           leb-true _ _ (first_holds _ 0 (unless_of (ltb (link_of s) a.link_count) 4 ∷ arm_refusal a ∷ []) e),
         )
 
-    pub split_refused : (k : ℕ) → k ≡ split_refusal a s to → (k ≡ 0 → ⊥) → out (record { refusal = k; count = 0 }) to ≡ arm_split a s to
+    pub split_refused : {A : Type 0} {t : Result A Refusal} {y : Refusal} → t ≡ Err y → code t ≡ split_refusal a s to → (r : Result ℕ Refusal)
+        → IsErrAnd r (λ z. z ≡ y) → out (counted r) to ≡ arm_split a s to
     unfolding arm_split
-    split_refused k e h = rw (← e) (sym (given_some k _ _ to h))
+    split_refused p e r q = filled_exit p e (part_count (parents_of a) s) (split_map (parents_of a) s (live_links a)) to r q
 
     pub split_given : (k : ℕ) → k ≡ split_refusal a s to → k ≡ 0 → split_answer (parents_of a) s to ≡ arm_split a s to
     unfolding arm_split

@@ -24,7 +24,6 @@ use Rattle.arm.proofs.Live.{mask_there, masks_live, dof_count_le}
 use Rattle.full_working.proofs.Again.{call_settles}
 use Rattle.part_arm.specs.Places.{Places, places_of, goes_on}
 use Rattle.part_arm.specs.Part.{new_link, part_links, part_entries, part_arm}
-use Rattle.part_arm.proofs.Turns.{blank_links}
 use Rattle.arm_split.specs.Answers.{part_refusal, arm_part}
 use Rattle.arm_split.specs.Words.{PartSettles, PartDofs, PartRows}
 use Rattle.arm_split.proofs.Refused.{part_accepted}
@@ -32,6 +31,10 @@ use Rattle.arm_split.proofs.Picked.{map-chosen}
 use Rattle.arm_split.proofs.Passing.{passing, links_few, part_links_lem}
 
 -- ---- settled
+
+blank_links : length empty_arm.links ≡ link_limit
+unfolding empty_arm
+blank_links = refl
 
 part_sized : (p : Places) (a : Arm) → length (part_arm p a).links ≡ link_limit
 unfolding part_arm

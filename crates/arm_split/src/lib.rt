@@ -32,10 +32,7 @@ pub fn split(arm: &Arm, s: Split, map: &mut [u8]) -> Result<usize, Refusal>
     // What the bare list refuses is known before the lent memory is written.
     let bare = map_of(arm, s, &mut [0; MAP]);
     lowest(&[
-        unless(
-            arm.live_links().len() <= map.len() / 2,
-            Refusal::Memory,
-        ),
+        unless(arm.live_links().len() <= map.len() / 2, Refusal::Memory),
         bare.map(|_| ()),
         arm.refusal(),
     ])?;
