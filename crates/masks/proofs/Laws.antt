@@ -2,9 +2,7 @@
 use native.Mathlib.Decide.{dec_lt}
 use borrow.Author.Tests.{lt-leb}
 use Rattle.std.specs.Int.{from_bool}
-use Rattle.std.specs.List.{filter, range_with_len}
-use Rattle.std.proofs.Common.{ℕ, zero, suc, min, ◌+◌, ◌≤◌, ◌<◌, ◌≡◌, ◌∙◌, refl, ap, sym, Bool, true, false, not, cond, List, [], ◌∷◌, map, length, length-append, map-id, add-one, arith, Result, Ok, Err}
-use Rattle.std.proofs.lemmas.List.FromFn.{filter_of_map_range_with_len_more}
+use Rattle.std.proofs.Common.{ℕ, zero, suc, min, ◌+◌, ◌≤◌, ◌<◌, ◌≡◌, ◌∙◌, refl, ap, sym, Bool, true, false, not, cond, [], ◌∷◌, length, add-one, arith, Result, Ok, Err}
 use Rattle.refusal.specs.declared.Refusal.{Refusal}
 use Rattle.masks.specs.declared.Axis.{Axis}
 use Rattle.masks.specs.declared.Axis.TheVariants.{X, Y, Angle}
@@ -91,17 +89,17 @@ below-le m (suc (suc (suc k))) = omega (arith, below_past m k, ap one (no_axis m
 pub below_free : (m a : ℕ) → is_free m a ≡ true → dofs_below m a < dofs_of m
 below_free m a h = omega (arith, below-le m a, ap one h)
 
--- ---- as a count of those in a range
+-- ---- as a loop counts them, of the three
 
-free_list : (m n : ℕ) → length (filter (is_free m) (map (λ (k : ℕ). k) (range_with_len 0 n))) ≡ dofs_below m n
+pub below_none : (m : ℕ) → 0 ≡ dofs_below m 0
 unfolding dofs_below
-free_list m zero = refl
-free_list m (suc n) =
-    let e = rw (add-one n) at (filter_of_map_range_with_len_more (is_free m) (λ (k : ℕ). k) 0 n n (omega arith)) in
-    ap length e ∙ simp length-append (omega (arith, free_list m n, one_entry n (is_free m n)))
+below_none m = refl
+
+pub below_next : (m a count more : ℕ) → count ≡ dofs_below m a → more ≡ from_bool (is_free m a) → count + more ≡ dofs_below m (a + 1)
+below_next m a count more p q = rw (add-one, below_suc m a, p, q, from_one)
 
 -- past the three no more are counted
-below_three : (m a k : ℕ) → k ≡ min a 3 → dofs_below m k ≡ dofs_below m a
+pub below_three : (m a k : ℕ) → k ≡ min a 3 → dofs_below m k ≡ dofs_below m a
 unfolding dofs_of
 below_three m a k e = elim (dec_lt a 3) [
   | yes l ↦ ap (dofs_below m) (omega arith)
@@ -113,7 +111,3 @@ below_three m a k e = elim (dec_lt a 3) [
     past (suc zero) h = absurd (omega arith)
     past (suc (suc zero)) h = absurd (omega arith)
     past (suc (suc (suc k))) h = sym (below_past m k)
-
--- those below an axis, of the three
-pub below_all : (m a n : ℕ) → n ≡ length (filter (is_free m) (range_with_len 0 (min a 3))) → n ≡ dofs_below m a
-below_all m a n e = e ∙ ap (λ (xs : List ℕ). length (filter (is_free m) xs)) (sym (map-id (range_with_len 0 (min a 3)))) ∙ free_list m (min a 3) ∙ below_three m a (min a 3) refl
