@@ -16,8 +16,7 @@ use one_link_move::{Change, move_link};
 use planar::{Point, Pose, Rotation, identity, rotate};
 use refusal::{Refusal, lower};
 use root_change::{Root, change_root};
-use std::fmt;
-use std::io;
+use std::{fmt, io};
 use topology::Split;
 use unit_multibody_joint::{Limits, limit_row};
 use whole_step::step;
@@ -92,10 +91,18 @@ fn print_kin(rt: &impl Print, arm: &Arm, tables: &[f32]) -> io::Result<()> {
     println!(rt; "ok")?;
     for (i, l) in arm.live_links().iter().enumerate() {
         println!(rt; "pose {i}{}", Floats(&of_pose(l.world)))?;
-        println!(rt; "shifts {i}{}{}", Floats(&of_point(l.shift02)), Floats(&of_point(l.shift23)))?;
+        println!(rt;
+            "shifts {i}{}{}",
+            Floats(&of_point(l.shift02)),
+            Floats(&of_point(l.shift23))
+        )?;
     }
     let dofs = arm.dof_count();
-    for (i, block) in tables.chunks(BLOCK).take(arm.live_links().len()).enumerate() {
+    for (i, block) in tables
+        .chunks(BLOCK)
+        .take(arm.live_links().len())
+        .enumerate()
+    {
         for (row, entries) in block.chunks(DOFS).enumerate() {
             println!(rt; "jac {i} row {row}{}", first(dofs, entries))?;
         }
@@ -107,10 +114,27 @@ fn print_kin(rt: &impl Print, arm: &Arm, tables: &[f32]) -> io::Result<()> {
 
 fn print_link(rt: &impl Print, i: usize, start: usize, l: &Link) -> io::Result<()> {
     let j = l.joint;
-    print!(rt; "link {i} tag {} parent {} start {start} masks{}", l.tag, l.parent, Bytes(&[j.locked, j.limit, j.motor]))?;
-    print!(rt; " frame1{} frame2{}", Floats(&of_pose(j.frame1)), Floats(&of_pose(j.frame2)))?;
-    print!(rt; " com{} coords{}", Floats(&of_point(l.centre)), Floats(&j.coordinates))?;
-    print!(rt; " rot{} stiffness{}", Floats(&of_rotation(j.rotation)), Floats(&j.stiffness))?;
+    print!(rt;
+        "link {i} tag {} parent {} start {start} masks{}",
+        l.tag,
+        l.parent,
+        Bytes(&[j.locked, j.limit, j.motor])
+    )?;
+    print!(rt;
+        " frame1{} frame2{}",
+        Floats(&of_pose(j.frame1)),
+        Floats(&of_pose(j.frame2))
+    )?;
+    print!(rt;
+        " com{} coords{}",
+        Floats(&of_point(l.centre)),
+        Floats(&j.coordinates)
+    )?;
+    print!(rt;
+        " rot{} stiffness{}",
+        Floats(&of_rotation(j.rotation)),
+        Floats(&j.stiffness)
+    )?;
     println!(rt; " rest{}", Floats(&j.rest))
 }
 
@@ -122,7 +146,10 @@ fn print_coupling(rt: &impl Print, c: &Coupling) -> io::Result<()> {
 fn print_dump(rt: &impl Print, arm: &Arm) -> io::Result<()> {
     let dofs = arm.dof_count();
     println!(rt; "ok")?;
-    println!(rt; "arm links {} dofs {dofs} couplings {}", arm.link_count, arm.coupling_count)?;
+    println!(rt;
+        "arm links {} dofs {dofs} couplings {}",
+        arm.link_count, arm.coupling_count
+    )?;
     for (i, l) in arm.live_links().iter().enumerate() {
         print_link(rt, i, arm.start_of(i), l)?;
     }
@@ -174,7 +201,10 @@ fn ask_masks(rt: &impl Print, locked: u32, limit: u32, motor: u32) -> io::Result
     let constraints = num_velocity_constraints(locked, limit, motor);
     print_status(rt, &lower(dofs.map(|_| ()), constraints.map(|_| ())))?;
     if let (Ok(dofs), Ok(constraints)) = (dofs, constraints) {
-        println!(rt; "masks dofs {dofs} constraints {constraints} damping{}", first(dofs, &damping))?;
+        println!(rt;
+            "masks dofs {dofs} constraints {constraints} damping{}",
+            first(dofs, &damping)
+        )?;
     }
     Ok(())
 }
@@ -195,8 +225,16 @@ fn ask_limit(rt: &impl Print, arm: &Arm, position: f32) -> io::Result<()> {
     let answer = limit_row(arm, 1, 2, given, &mass, &mut j, &mut wj);
     print_status(rt, &answer)?;
     if let Ok(row) = answer {
-        print!(rt; "limit bounds{} rhs{}", Floats(&[row.lower, row.upper]), Floats(&[row.rhs]))?;
-        print!(rt; " cfm_gain{} inv_lhs{}", Floats(&[row.cfm_gain]), Floats(&[row.inv_lhs]))?;
+        print!(rt;
+            "limit bounds{} rhs{}",
+            Floats(&[row.lower, row.upper]),
+            Floats(&[row.rhs])
+        )?;
+        print!(rt;
+            " cfm_gain{} inv_lhs{}",
+            Floats(&[row.cfm_gain]),
+            Floats(&[row.inv_lhs])
+        )?;
         println!(rt; " j{} wj{}", Floats(&j), Floats(&wj))?;
     }
     Ok(())
@@ -262,7 +300,14 @@ fn made(rt: &impl Print, answer: Result<Arm, Refusal>) -> io::Result<Arm> {
 // ---- Six links, parents A
 
 // Tag, parent and locked mask of each.
-const SIX: [[u32; 3]; 6] = [[10, 0, 7], [11, 0, 3], [12, 1, 2], [13, 1, 3], [14, 0, 4], [15, 3, 0]];
+const SIX: [[u32; 3]; 6] = [
+    [10, 0, 7],
+    [11, 0, 3],
+    [12, 1, 2],
+    [13, 1, 3],
+    [14, 0, 4],
+    [15, 3, 0],
+];
 
 fn six_links(rt: &impl Print, tables: &mut [f32]) -> io::Result<Arm> {
     let mut arm = made(rt, empty(tables))?;
@@ -280,7 +325,13 @@ fn six_links(rt: &impl Print, tables: &mut [f32]) -> io::Result<Arm> {
 
 // P1 to P5.
 fn marked_splits(rt: &impl Print, arm: &Arm) -> io::Result<()> {
-    for s in [Split::Delete(1), Split::Cut(1), Split::Delete(0), Split::Delete(5), Split::Cut(0)] {
+    for s in [
+        Split::Delete(1),
+        Split::Cut(1),
+        Split::Delete(0),
+        Split::Delete(5),
+        Split::Cut(0),
+    ] {
         ask_split(rt, arm, s)?;
     }
     Ok(())

@@ -120,7 +120,12 @@ pub extern "C" fn giellavor_write_friction(mut arm: Arm, link: u32, axis: u32, v
 }
 
 #[unsafe(no_mangle)]
-pub extern "C" fn giellavor_write_acceleration(mut arm: Arm, link: u32, axis: u32, value: f32) -> Edited
+pub extern "C" fn giellavor_write_acceleration(
+    mut arm: Arm,
+    link: u32,
+    axis: u32,
+    value: f32,
+) -> Edited
     ensures { result ≡ row_written arm RowName.Accelerations link axis value }
 {
     let answer = write_row(&mut arm, RowName::Accelerations, link, axis, value);

@@ -80,7 +80,11 @@ pub extern "C" fn giellavor_spring(arm: Arm, link: u32, axis: u32) -> SpringAnsw
 
 // The accelerations of a link's joint, which begin with the link's own, put on their axes. Refused: 1 to 5, 7, 9.
 #[unsafe(no_mangle)]
-pub extern "C" fn giellavor_jacobian_mul_coordinates(arm: Arm, link: u32, accelerations: &[f32]) -> AxesAnswer
+pub extern "C" fn giellavor_jacobian_mul_coordinates(
+    arm: Arm,
+    link: u32,
+    accelerations: &[f32],
+) -> AxesAnswer
     ensures { result ≡ mul_answer arm link accelerations.now }
 {
     arm_views::jacobian_mul_coordinates(&arm, link, accelerations).into()
@@ -115,13 +119,7 @@ pub extern "C" fn giellavor_arm_split_cut(arm: Arm, link: u32, map: &mut [u8]) -
 
 // ---- Rows
 
-fn row_part(
-    arm: &Arm,
-    role: Role,
-    link: u32,
-    velocities: &[f32],
-    accelerations: &[f32],
-) -> RowPart
+fn row_part(arm: &Arm, role: Role, link: u32, velocities: &[f32], accelerations: &[f32]) -> RowPart
     ensures { result ≡ place_of arm.now role link velocities.now accelerations.now }
 {
     match row_view(arm, role, link, velocities, accelerations) {
