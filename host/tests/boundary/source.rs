@@ -116,8 +116,10 @@ pub fn exported_by(names: &[&str]) -> Functions {
     found
 }
 
-/// A parameter's name to a caller. In Rattle `result` is what a function returns, so there a parameter of that name is called `res`.
+/// A parameter's name to a caller: whether the function writes over its own copy is nothing to him. In Rattle `result` is what a function returns, so there a
+/// parameter of that name is called `res`.
 fn given(name: &str) -> &str {
+    let name = name.strip_prefix("mut ").unwrap_or(name);
     if name == "res" { "result" } else { name }
 }
 
