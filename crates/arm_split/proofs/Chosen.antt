@@ -9,7 +9,6 @@ use native.Mathlib.Decide.{dec_lt}
 use lib.ListN.{length, take, length-take, get_or-eq_default}
 use Rattle.lists.proofs.Numbers.{count_le}
 use lib.Seq.{get_or-take, length-take-le}
-use Rattle.full_working.proofs.Refused.{goes_on as go_on}
 use Rattle.part_arm.specs.Inner.{places_in}
 use Rattle.arm.proofs.Accepted.{accepted}
 use Rattle.refusal.specs.Counted.{out as mapped}
@@ -23,7 +22,6 @@ use Rattle.topology.specs.declared.Split.{Split}
 use Rattle.topology.specs.Split.{is_head, part_count, is_in, split_map}
 use Rattle.topology.proofs.Theorems.{with_parent, in_part}
 use Rattle.arm.specs.declared.Arm.{Arm}
-use Rattle.arm.specs.Empty.{empty_arm}
 use Rattle.arm.specs.Arm.{live_links, links_of, couplings_of, parents_of, link_at, no_link, no_coupling, coupling_at, parent_of}
 use Rattle.arm.specs.HandedIn.{coupling_links_fit, arm_refusal}
 use Rattle.arm.proofs.Live.{parents_live}
@@ -32,8 +30,7 @@ use Rattle.part_arm.specs.Part.{part_arm}
 use Rattle.arm_split.proofs.Heads.{in_survives, is_in_lem, here_read, number_read, head_read}
 use Rattle.arm_split.proofs.Same.{Agree, part_same}
 use Rattle.arm_split.proofs.Refused.{Whole, accepted_whole, part_accepted, part_map}
-use Rattle.full_working.specs.Outcome.{worked_all}
-use Rattle.arm_split.specs.Answers.{part_refusal, arm_part}
+use Rattle.arm_split.specs.Answers.{part_refusal}
 use Rattle.topology.specs.Answers.{split_answer}
 use lib.Ieee.{Float}
 
@@ -96,14 +93,9 @@ module _ (a : Arm) (whole : length a.links ≡ link_limit) where
     pub part_read : (m : List ℕ) → m ≡ split_map (parents_of a) s (length (parents_of a)) ++ rest → part_arm (places_in m k) a ≡ part_arm (places_of a s k) a
     part_read m e = rw e (part_same a _ _ agree)
 
-  -- the call, once nothing is refused
-  pub part_given : (s : Split) (k : ℕ) (tables : List Float) (refusal : ℕ) → refusal ≡ part_refusal a s k tables → refusal ≡ 0
-      → (m m' : List ℕ) (r : Counted) → 2 * link_limit ≤ length m → mapped r m' ≡ split_answer (parents_of a) s m
-      → (new : Arm) → new ≡ part_arm (places_in m' k) a → worked_all empty_arm new tables ≡ arm_part a s k tables
-  unfolding arm_part
-  part_given s k tables refusal e z m m' r room b new q =
-      let x = part_accepted a whole s k tables (sym e ∙ z) in
-      let w = accepted_whole a whole s x.0.arm in
-      let places = part_map a whole s k tables x.0 m m' r room b in
-      ap (λ (n : Arm). worked_all empty_arm n tables) (q ∙ part_read s k x.0.arm w x.1 _ m' places)
-      ∙ go_on e empty_arm tables z (worked_all empty_arm (part_arm (places_of a s k) a) tables)
+  -- the part, once nothing is refused
+  pub part_chosen : (s : Split) (k : ℕ) (tables : List Float) → part_refusal a s k tables ≡ 0 → (m m' : List ℕ) (r : Counted) → 2 * link_limit ≤ length m
+      → mapped r m' ≡ split_answer (parents_of a) s m → part_arm (places_in m' k) a ≡ part_arm (places_of a s k) a
+  part_chosen s k tables e m m' r room b =
+      let x = part_accepted a whole s k tables e in
+      part_read s k x.0.arm (accepted_whole a whole s x.0.arm) x.1 _ m' (part_map a whole s k tables x.0 m m' r room b)

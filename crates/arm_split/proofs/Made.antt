@@ -14,7 +14,11 @@ use Rattle.arm.specs.declared.Arm.{Arm}
 use Rattle.arm.specs.Empty.{empty_arm}
 use Rattle.arm.specs.Edits.{edited_as, made_as}
 use Rattle.full_working.specs.Outcome.{Outcome, out, unless_refused, worked_by, worked_all}
-use Rattle.full_working.proofs.Refused.{refused}
+use Rattle.full_working.proofs.Refused.{refused, goes_on}
+use Rattle.topology.specs.declared.Split.{Split}
+use Rattle.part_arm.specs.Places.{places_of}
+use Rattle.part_arm.specs.Part.{part_arm}
+use Rattle.arm_split.specs.Answers.{part_refusal, arm_part}
 
 -- at the exit of a `?` after the tests
 pub unmade_by_tests : {A : Type 0} {t : Result A Refusal} {y : Refusal} {k : ℕ} → t ≡ Err y → code t ≡ k → (m : List Float) (r : Result Arm Refusal) → IsErrAnd r (λ z. z ≡ y)
@@ -57,3 +61,8 @@ module _ (new a : Arm) (t m : List Float) (r : Result Unit Refusal) (e : out (ed
   pub unmade : {y : Refusal} → r ≡ Err y → (q : Result Arm Refusal) → IsErrAnd q (λ z. z ≡ y) → out (made_as q) m ≡ worked_all empty_arm new t
   unfolding worked_all
   unmade p q h = unmade_by new a m _ r _ e p q h
+
+-- what part k is once nothing is refused
+pub part_worked : (a : Arm) (s : Split) (k : ℕ) (t : List Float) → 0 ≡ part_refusal a s k t → (new : Arm) → new ≡ part_arm (places_of a s k) a → worked_all empty_arm new t ≡ arm_part a s k t
+unfolding arm_part
+part_worked a s k t e new q = ap (λ (x : Arm). worked_all empty_arm x t) q ∙ goes_on e empty_arm t refl _

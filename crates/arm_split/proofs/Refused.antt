@@ -10,10 +10,9 @@ use lib.Dec.{leb, ltb}
 use lib.ListN.{length, drop}
 use lib.Ieee.{Float}
 use Rattle.std.proofs.Common.{Result, Ok, Err, MatchResult}
-use Rattle.std.specs.Result.{IsOkAnd, IsErrAnd, result_unwrap_or}
+use Rattle.std.specs.Result.{IsOkAnd, result_unwrap_or}
 use Rattle.refusal.specs.declared.Refusal.{Refusal}
 use Rattle.refusal.specs.Counted.{counted_of, counted, Outcome, out, filled}
-use Rattle.refusal.proofs.Answers.{filled_exit}
 use Rattle.refusal.specs.declared.Counted.{Counted}
 use Rattle.limits.specs.Limits.{link_limit}
 use Rattle.refusal.specs.Refusal.{code, unless_of, lower_of, lowest, In}
@@ -217,11 +216,6 @@ module _ (a : Arm) (whole : length a.links ≡ link_limit) (s : Split) where
           },
           leb-true _ _ (first_holds _ 0 (unless_of (ltb (link_of s) a.link_count) 4 ∷ arm_refusal a ∷ []) e),
         )
-
-    pub split_refused : {A : Type 0} {t : Result A Refusal} {y : Refusal} → t ≡ Err y → code t ≡ split_refusal a s to → (r : Result ℕ Refusal)
-        → IsErrAnd r (λ z. z ≡ y) → out (counted r) to ≡ arm_split a s to
-    unfolding arm_split
-    split_refused p e r q = filled_exit p e (part_count (parents_of a) s) (split_map (parents_of a) s (live_links a)) to r q
 
     pub split_given : (k : ℕ) → k ≡ split_refusal a s to → k ≡ 0 → split_answer (parents_of a) s to ≡ arm_split a s to
     unfolding arm_split

@@ -100,6 +100,7 @@ pub fn at_or_below(parents: &[u8], link: usize) -> [bool; LINKS]
     ensures { result ≡ marks parents.now link }
 {
     let mut marks = [false; LINKS];
+    // By places: over a chain with `take` the proof loses which link is marked.
     for j in 0..parents.len().min(LINKS) {
         let p = parents[j] as usize;
         marks[j] = (j == link) || (p < j && marks[p]);
@@ -157,8 +158,8 @@ fn parts_of(parents: &[u8], s: Split) -> Parts
 {
     let mut of = [None; LINKS];
     let mut count = 0;
-    for j in 0..parents.len() {
-        let p = parents[j] as usize;
+    for (j, p) in parents.iter().enumerate() {
+        let p = *p as usize;
         of[j] = if s.is_head(j, p) {
             count += 1;
             Some(count - 1)
@@ -179,6 +180,7 @@ fn write_map(of: &[Option<usize>; LINKS], n: usize, map: &mut [u8])
     ensures { map.new ≡ numbered of.now n ++ drop (2 * n) map.old }
 {
     let mut seen = [0u8; LINKS];
+    // By places: a link has two bytes of the map.
     for j in 0..n {
         let (part, number) = match of[j] {
             Some(part) => {
