@@ -2,16 +2,17 @@
 // is tested, and the lowest refusal of all is given. A refusal leaves all lent memory as it was.
 #![tactic(auto)]
 
-ghost use Rattle.std.specs.Prelude.{◌≡◌, ◌*◌, ◌<◌, ◌≤◌, not, ◌&&◌, length, replicate, Ok, IfOk};
+ghost use Rattle.std.specs.Prelude.{◌≡◌, ◌*◌, ◌<◌, ◌≤◌, not, ◌&&◌, length, replicate, set, Ok, IfOk};
 ghost use Rattle.limits.specs.Limits.{dof_limit};
 ghost use Rattle.refusal.specs.Refusal.{code};
 ghost use Rattle.std.specs.Float.Ieee.{lt};
-ghost use Rattle.floats.specs.Floats.{zero32, times, is_finite};
+ghost use Rattle.floats.specs.Floats.{zero32, one32, times, is_finite};
 ghost use Rattle.floats.specs.Inner.{overlaid, copied_part};
 ghost use Rattle.solve.specs.Solve.{answer};
 ghost use Rattle.solve.specs.Inner.{solve_any};
 ghost use Rattle.arm.specs.Edits.{dof_at};
 ghost use Rattle.unit_multibody_joint.specs.Outcome.{out};
+ghost use Rattle.unit_multibody_joint.specs.Lent.{SamePlaces};
 ghost use Rattle.unit_multibody_joint.specs.Rows.{positive, lower_bound, upper_bound, limit_bounds, friction_bounds, inverse, row_of, row_as, finite_row, row_answer, lhs_at};
 ghost use Rattle.unit_multibody_joint.specs.Refusals.{memory_fits, friction_at, limits_finite, limits_ordered, row_refusal};
 ghost use Rattle.unit_multibody_joint.specs.Answers.{axis_answer, limit_answer, friction_answer};
@@ -259,6 +260,7 @@ impl<'a> Lent<'a> {
     // Both go into the fronts of the memories.
     pub fn lay(&mut self, row: &[f32], solved: &[f32; DOFS])
         ensures j { self.new.j.now ≡ overlaid self.old.j.now row.now }
+        ensures places { SamePlaces self.old self.new }
         ensures wj { self.new.wj.now ≡ copied_part 0 0 (length row.now) self.old.wj.now solved.now }
     {
         copy(self.j, row);
@@ -274,7 +276,8 @@ fn constrain(
     lent: &mut Lent<'_>,
 ) -> Result<Constraint, Refusal>
     requires { (length row.now ≤ dof_limit) × (at < length row.now) × (length row.now * length row.now ≤ length lent.old.mass.now) × (length row.now ≤ length lent.old.j.now) × (length row.now ≤ length lent.old.wj.now) }
-    ensures { out (row_as result) lent.new.j.now lent.new.wj.now ≡ row_answer wanted.bounds wanted.cfm_coeff (lhs_at at) 0 (length row.now) row.now lent.old.mass.now lent.old.j.now lent.old.wj.now }
+    ensures places { SamePlaces lent.old lent.new }
+    ensures answer { out (row_as result) lent.new.j.now lent.new.wj.now ≡ row_answer wanted.bounds wanted.cfm_coeff (lhs_at at) 0 (length row.now) row.now lent.old.mass.now lent.old.j.now lent.old.wj.now }
 {
     let solved = lent.solve(row)?;
     let made = Constraint::of(wanted.bounds, wanted.cfm_coeff, solved[at]);
@@ -301,6 +304,7 @@ impl LinkAxis {
     }
 
     // Its friction; +0 where the arm has no such DoF.
+    #[tactic(auto, using(arm::proofs::Live::dof_count_le, crate::proofs::Rows::friction_is))]
     fn friction(self, arm: &Arm) -> f32
         ensures { result ≡ friction_at arm.now self.link self.axis }
     {
@@ -312,6 +316,7 @@ impl LinkAxis {
 }
 
 // The rules that both rows share.
+#[tactic(auto, using(arm::proofs::Live::dof_count_le, elimination::proofs::Rows::square_mono), unfolding(crate::specs::Refusals::row_refusal))]
 fn row_refusal(arm: &Arm, at: LinkAxis, wanted: Wanted, lent: &Lent<'_>) -> Result<(), Refusal>
     ensures { code result ≡ row_refusal arm.now at.link at.axis wanted.finite wanted.ordered lent.now.mass.now (length lent.now.j.now) (length lent.now.wj.now) }
 {
@@ -331,23 +336,34 @@ fn row_refusal(arm: &Arm, at: LinkAxis, wanted: Wanted, lent: &Lent<'_>) -> Resu
     ])
 }
 
+// 1 at a DoF, zero at all others.
+fn unit(dof: usize) -> [f32; DOFS]
+    requires { dof < dof_limit }
+    ensures { result ≡ set (replicate dof_limit zero32) dof one32 }
+{
+    let mut row = [0.0; DOFS];
+    row[dof] = 1.0;
+    row
+}
+
 // The row of an axis: J is 1 at its DoF, and lhs is WJ there.
+#[tactic(auto, using(refusal::proofs::Answers::passed, crate::proofs::Accepted::row_ready))]
 fn axis_row(
     arm: &Arm,
     at: LinkAxis,
     wanted: Wanted,
     lent: &mut Lent<'_>,
 ) -> Result<Constraint, Refusal>
-    ensures { out (row_as result) lent.new.j.now lent.new.wj.now ≡ axis_answer arm.now at.link at.axis wanted.finite wanted.ordered wanted.bounds wanted.cfm_coeff lent.old.mass.now lent.old.j.now lent.old.wj.now }
+    ensures places { SamePlaces lent.old lent.new }
+    ensures answer { out (row_as result) lent.new.j.now lent.new.wj.now ≡ axis_answer arm.now at.link at.axis wanted.finite wanted.ordered wanted.bounds wanted.cfm_coeff lent.old.mass.now lent.old.j.now lent.old.wj.now }
 {
     row_refusal(arm, at, wanted, lent)?;
     let dof = at.dof(arm);
-    let mut unit = [0.0; DOFS];
-    unit[dof] = 1.0;
-    constrain(&unit[..arm.dof_count()], dof, wanted, lent)
+    constrain(&unit(dof)[..arm.dof_count()], dof, wanted, lent)
 }
 
 // The row of an axis' limit. The first n floats of `j` become J and those of `wj` WJ, n being the DoF count.
+#[tactic(auto, using(crate::proofs::Asked::limit_is))]
 pub fn limit_row(
     arm: &Arm,
     link: u32,
@@ -369,6 +385,7 @@ pub fn limit_row(
 }
 
 // The row of an axis' friction, which the arm's row holds. `j` and `wj` as in `limit_row`.
+#[tactic(auto, using(crate::proofs::Asked::friction_is))]
 pub fn friction_row(
     arm: &Arm,
     link: u32,
