@@ -11,7 +11,7 @@ use lib.Dec.{T, leb}
 use lib.Ieee.{Float, le, mul, of_int, of_bits}
 use lib.Ieee.Fits.{and_l, and_r}
 use Rattle.planar.specs.Rotation.{threshold, count_to, quarter_turns}
-use Rattle.planar.proofs.Order.{le_trans}
+use Rattle.std.proofs.lemmas.Float.{le_trans, T_from_true}
 
 one_at_most : (b : Bool) → cond b 1 0 ≤ 1
 one_at_most true = omega arith
@@ -38,15 +38,12 @@ is_true : (b : Bool) → T b → b ≡ true
 is_true true t = refl
 is_true false t = absurd t
 
-holds : (b : Bool) → b ≡ true → T b
-holds b e = subst T (sym e) tt
-
 -- the last one is at most a: so are all before it
 all_counted : (n : ℕ) (a : Float) → Rising (suc n) → Told n a → le (threshold (suc n)) a ≡ true → n ≤ count_to n a
 all_counted zero a r h e = zero-le
 all_counted (suc n) a r h e =
     let rise = r (suc n) (omega arith) (omega arith) in
-    let t = le_trans (threshold (suc n)) (threshold (suc (suc n))) a rise (holds (le (threshold (suc (suc n))) a) e) in
+    let t = le_trans (threshold (suc n)) (threshold (suc (suc n))) a rise (T_from_true (le (threshold (suc (suc n))) a) e) in
     leb-true (suc n) (count_to (suc n) a) (sym (h (suc n) (omega arith) (le_refl (suc n))) ∙ is_true (le (threshold (suc n)) a) t)
 
 one_more : (n : ℕ) (a : Float) → le (threshold (suc n)) a ≡ true → count_to (suc n) a ≡ suc (count_to n a)
