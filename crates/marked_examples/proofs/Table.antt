@@ -1,6 +1,7 @@
 -- The marked examples hold of the definitions: both columns compute to the same numbers.
 use mathlib.Core.Path.{refl}
 use lib.Ieee.{of_bits, to_bits, add, sub, mul, div, lt, eq}
+use Rattle.std.specs.Float.{float_is_finite}
 use Rattle.lists.specs.Numbers.{all_below, count_below, last_that}
 use Rattle.refusal.specs.Refusal.{lower_of}
 use Rattle.refusal.specs.Counted.{counted_of, filled}
@@ -20,7 +21,8 @@ use Rattle.arm.specs.Empty.{empty_arm}
 use Rattle.arm.specs.Arm.{links_of, couplings_of, tags_of, parents_of, masks_of, mask_at, start_at, dof_count_of, rows_of}
 use Rattle.arm.specs.Edits.{dof_at}
 use Rattle.arm.specs.HandedIn.{unique, tags_unique, parents_earlier, coupling_links_fit, joint_masks_fit, root_fits, coupling_axes_fit}
-use Rattle.arm.specs.HandedIn.{joint_finite, link_finite, coupling_finite, rows_finite, angle_fits, arm_rules, arm_refusal}
+use Rattle.multibody_joint.specs.Joint.{joint_finite}
+use Rattle.arm.specs.HandedIn.{link_finite, coupling_finite, rows_finite, angle_fits, arm_rules, arm_refusal}
 use Rattle.unit_multibody_joint.specs.Outcome.{or_then, answered, solved_answer}
 use Rattle.unit_multibody_joint.specs.Rows.{positive, lower_bound, upper_bound, limit_bounds, inverse, row_of, row_answer, unit_row, lhs_at}
 use Rattle.unit_multibody_joint.specs.Refusals.{row_refusal}
@@ -36,5 +38,5 @@ unfolding answer of_bits to_bits add sub mul div lt eq all_below count_below las
     couplings_of tags_of parents_of masks_of mask_at start_at dof_count_of rows_of dof_at unique tags_unique parents_earlier coupling_links_fit
     joint_masks_fit root_fits coupling_axes_fit joint_finite link_finite coupling_finite rows_finite angle_fits arm_rules arm_refusal or_then answered
     solved_answer positive lower_bound upper_bound limit_bounds inverse row_of row_answer unit_row lhs_at row_refusal
-    axis_answer limit_answer
+    axis_answer limit_answer float_is_finite
 all_hold = refl
