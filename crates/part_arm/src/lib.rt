@@ -25,7 +25,7 @@ struct PartMap {
 }
 
 impl PartMap {
-    // Past the map, as of the deleted link.
+    // The part of a link; past the map, as of the deleted link: the rule gives a byte for every number.
     #[tactic(auto, unfolding(crate::specs::Inner::part_in))]
     fn part(&self, j: u8) -> u8
         ensures { result ≡ part_in self.now.places j }
@@ -33,6 +33,7 @@ impl PartMap {
         self.places.get(2 * j as usize).copied().unwrap_or(GONE)
     }
 
+    // Its number in the part, past the map alike.
     #[tactic(auto, unfolding(crate::specs::Inner::number_in))]
     fn number(&self, j: u8) -> u8
         ensures { result ≡ number_in self.now.places j }
@@ -103,6 +104,7 @@ impl PartMap {
         Row { entries }
     }
 
+    // All rows: an array's own parameter says that there are 5.
     fn rows(&self, arm: &Arm, rows: &[Row; 5]) -> [Row; 5]
         ensures { IsWhole arm.now → result ≡ map (part_row (seen_by self.now) arm.now) rows.now }
     {
@@ -126,7 +128,8 @@ impl PartMap {
     }
 }
 
-// Lays what `kept` gives of each of the first n items, in turn, over the front of a list; answers how many those are.
+// Lays what `kept` gives of each of the first n items, in turn, over the front of a list; answers how many those are. It takes C's array and count as they
+// are: a slice of those that count doesn't say that the array is whole.
 fn lay<T: Copy, F: Fn(u8, T) -> Option<T>>(items: &[T], n: usize, to: &mut [T], kept: F) -> usize
     requires few { length items.now ≤ 2 ^ 8 }
     requires room { length items.now ≤ length to.old }
