@@ -1,10 +1,13 @@
 -- j of a force on a link, wj its solve, and the two sums, by document 01's 'Constraint rows'.
-use Rattle.std.specs.Prelude.{ℕ, zero, suc, ◌+◌, ◌*◌, Bool, ◌&&◌, List, [], ◌∷◌, ◌++◌, get_or, Float}
+use Rattle.std.specs.Prelude.{ℕ, zero, suc, ◌+◌, ◌*◌, Bool, ◌&&◌, List, [], ◌∷◌, ◌++◌, get_or, Result, Ok, Err, Float}
 use Rattle.std.specs.Float.{nan}
 use Rattle.limits.specs.Limits.{dof_limit}
 use Rattle.floats.specs.Floats.{zero32, plus, times, all_finite, dot}
+use Rattle.refusal.specs.declared.Refusal.{Refusal}
+use Rattle.refusal.specs.Refusal.{number}
 use Rattle.unit_multibody_joint.specs.Outcome.{Outcome, solved_answer}
 use Rattle.fill_jacobians.specs.declared.Force.{Force}
+use Rattle.fill_jacobians.specs.declared.Products.{Products}
 use Rattle.fill_jacobians.specs.declared.Sums.{Sums}
 
 -- ---- j
@@ -28,6 +31,11 @@ sums_of row solved velocities = record { refusal = 0; j_wj = dot row solved; j_v
 -- refused: the number, and zeros
 abbrev pub refused_sums : ℕ → Sums
 refused_sums k = record { refusal = k; j_wj = zero32; j_velocities = zero32 }
+
+-- what C is told of the products
+abbrev pub sums_as : Result Products Refusal → Sums
+sums_as (Ok p) = record { refusal = 0; j_wj = p.j_wj; j_velocities = p.j_velocities }
+sums_as (Err r) = refused_sums (number r)
 
 abbrev pub finite_sums : Sums → Bool
 finite_sums s = all_finite (s.j_wj ∷ s.j_velocities ∷ [])

@@ -2,19 +2,22 @@
 // lowest refusal of all is given. A refusal leaves all lent memory as it was.
 #![tactic(auto)]
 
-ghost use Rattle.std.specs.Prelude.{◌≡◌, ◌*◌, ◌≤◌, length};
-ghost use Rattle.limits.specs.Limits.{dof_limit, block_size};
-ghost use Rattle.arm.specs.Arm.{entries_to};
+ghost use Rattle.std.specs.Prelude.{◌≡◌, ◌*◌, ◌<◌, ◌≤◌, length, take, Ok};
+ghost use Rattle.limits.specs.Limits.{link_limit, dof_limit, table_size};
+ghost use Rattle.refusal.specs.Refusal.{code};
+ghost use Rattle.arm.specs.Arm.{row_in};
+ghost use Rattle.arm.specs.declared.RowName.TheVariants.{Velocities};
+ghost use Rattle.kinematics.specs.Blocks.{block_at};
 ghost use Rattle.unit_multibody_joint.specs.Outcome.{out};
-ghost use Rattle.fill_jacobians.specs.Sums.{force_row, sums_of, refused_sums, finite_sums, sums_answer};
+ghost use Rattle.unit_multibody_joint.specs.Lent.{SamePlaces};
+ghost use Rattle.fill_jacobians.specs.Sums.{column_of, force_row, sums_of, sums_as, finite_sums, sums_answer};
 ghost use Rattle.fill_jacobians.specs.Fill.{force_finite, fill_refusal, fill_answer};
 
-use arm::{Arm, Row, RowName, arm_refusal, dof_count, row_number};
-use floats::{all_finite, copy, copy_part, dot_product, is_finite_part};
+use arm::{Arm, RowName};
+use floats::{Finite, all_finite, dot_product, is_finite_part};
 use limits::{BLOCK, DOFS, TABLES};
-use refusal::{lowest, unless};
-use solve::solve_any;
-use unit_multibody_joint::memory_fits;
+use refusal::{Refusal, lowest, unless};
+use unit_multibody_joint::Lent;
 
 // A force and a torque on a link.
 #[repr(C)]
@@ -25,7 +28,14 @@ pub struct Force {
     pub torque: f32,
 }
 
-// j·wj and j·velocities; zeros where refused.
+// j·wj and j·velocities.
+#[derive(Clone, Copy)]
+pub struct Products {
+    pub j_wj: f32,
+    pub j_velocities: f32,
+}
+
+// What C is told of the two: zeros where refused.
 #[repr(C)]
 #[derive(Clone, Copy)]
 pub struct Sums {
@@ -34,153 +44,160 @@ pub struct Sums {
     pub j_velocities: f32,
 }
 
-// ---- Rows
+// ---- The force
 
-// J0·fx + J1·fy + J2·torque in each column of a link's block, as many as the row is long.
-fn fill_row(force: Force, block: &[f32], row: &mut [f32])
-    requires { (length block.now ≡ block_size) × (length row.old ≤ dof_limit) }
-    ensures { row.new ≡ force_row force block.now (length row.old) }
-{
-    let mut c = 0;
-    while c < row.len() {
-        row[c] = block[c] * force.x
-            + block[DOFS + c] * force.y
-            + block[2 * DOFS + c] * force.torque;
-        c += 1;
+impl Force {
+    // J0·fx + J1·fy + J2·torque in a column of a link's block.
+    fn along(&self, block: &[f32; BLOCK], c: usize) -> f32
+        requires { c < dof_limit }
+        ensures { result ≡ column_of self.now block.now c }
+    {
+        block[c] * self.x + block[DOFS + c] * self.y + block[2 * DOFS + c] * self.torque
+    }
+
+    // So in each column, as many as the row is long.
+    fn fill_row(&self, block: &[f32; BLOCK], row: &mut [f32])
+        requires { length row.old ≤ dof_limit }
+        ensures { row.new ≡ force_row self.now block.now (length row.old) }
+    {
+        for (c, entry) in row.iter_mut().enumerate() {
+            *entry = self.along(block, c);
+        }
     }
 }
 
-// ---- Sums
+impl Finite for Force {
+    ghost finite = { force_finite };
 
-fn sums_of(row: &[f32], solved: &[f32], velocities: Row) -> Sums
-    ensures { result ≡ sums_of row.now solved.now velocities.entries }
-{
-    let entries = velocities.entries;
-    Sums {
-        refusal: 0,
-        j_wj: dot_product(row, solved),
-        j_velocities: dot_product(row, &entries),
+    fn is_finite(&self) -> bool {
+        all_finite(&[self.x, self.y, self.torque])
     }
 }
 
-fn are_finite_sums(s: Sums) -> bool
-    ensures { result ≡ finite_sums s }
-{
-    let values = [s.j_wj, s.j_velocities];
-    all_finite(&values)
-}
+// ---- The products
 
-fn refused_sums(refusal: u8) -> Sums
-    ensures { result ≡ refused_sums refusal }
-{
-    Sums {
-        refusal,
-        j_wj: 0.0,
-        j_velocities: 0.0,
+impl Products {
+    #[tactic(auto, unfolding(crate::specs::Sums::sums_of))]
+    fn of(row: &[f32], solved: &[f32; DOFS], velocities: &[f32; DOFS]) -> Products
+        ensures { sums_as (Ok result) ≡ sums_of row.now solved.now velocities.now }
+    {
+        Products {
+            j_wj: dot_product(row, solved),
+            j_velocities: dot_product(row, velocities),
+        }
     }
 }
 
-// wj and the sums of a row j, once no test refuses them. They are worked out beside the lent memory: a result may still be refused.
-fn sum_up(row: &[f32], velocities: Row, mass: &[f32], j: &mut [f32], wj: &mut [f32]) -> Sums
-    requires { (length row.now ≤ dof_limit) × (length row.now * length row.now ≤ length mass.now) × (length row.now ≤ length j.old) × (length row.now ≤ length wj.old) }
-    ensures { out result j.new wj.new ≡ sums_answer row.now (entries_to (length row.now) velocities) 0 (length row.now) mass.now j.old wj.old }
-{
-    let n = row.len();
-    let mut solved = [0.0f32; DOFS];
-    let trouble = solve_any(n, mass, row, &mut solved);
-    if trouble != 0 {
-        return refused_sums(trouble);
+impl Finite for Products {
+    ghost finite = { λ p. finite_sums (sums_as (Ok p)) };
+
+    fn is_finite(&self) -> bool {
+        all_finite(&[self.j_wj, self.j_velocities])
     }
-    let sums = sums_of(row, &solved, velocities);
-    let fine = all_finite(row) & are_finite_sums(sums);
-    if !fine {
-        return refused_sums(12);
-    }
-    copy(j, row);
-    copy_part(wj, 0, &solved, 0, n);
-    sums
 }
 
-// j, and what it sums up to, once no test refuses them.
+impl From<Result<Products, Refusal>> for Sums {
+    ghost from_gives = { λ r s. s ≡ sums_as r };
+
+    fn from(answer: Result<Products, Refusal>) -> Sums {
+        match answer {
+            Ok(products) => Sums {
+                refusal: 0,
+                j_wj: products.j_wj,
+                j_velocities: products.j_velocities,
+            },
+            Err(refusal) => Sums {
+                refusal: refusal.number(),
+                j_wj: 0.0,
+                j_velocities: 0.0,
+            },
+        }
+    }
+}
+
+// wj and the products of a row j, once no test refuses them.
+fn sum_up(row: &[f32], velocities: &[f32; DOFS], lent: &mut Lent<'_>) -> Result<Products, Refusal>
+    requires { (length row.now ≤ dof_limit) × (length row.now * length row.now ≤ length lent.old.mass.now) × (length row.now ≤ length lent.old.j.now) × (length row.now ≤ length lent.old.wj.now) }
+    ensures places { SamePlaces lent.old lent.new }
+    ensures answer { out (sums_as result) lent.new.j.now lent.new.wj.now ≡ sums_answer row.now (take (length row.now) velocities.now) 0 (length row.now) lent.old.mass.now lent.old.j.now lent.old.wj.now }
+{
+    let solved = lent.solve(row)?;
+    let made = Products::of(row, &solved, velocities);
+    unless(all_finite(row) & made.is_finite(), Refusal::Overflow)?;
+    lent.lay(row, &solved);
+    Ok(made)
+}
+
+// j, and its products, once no test refuses them.
 fn fill(
     n: usize,
     force: Force,
-    block: &[f32],
-    velocities: Row,
-    mass: &[f32],
-    j: &mut [f32],
-    wj: &mut [f32],
-) -> Sums
-    requires { (n ≤ dof_limit) × (length block.now ≡ block_size) × (n * n ≤ length mass.now) × (n ≤ length j.old) × (n ≤ length wj.old) }
-    ensures { out result j.new wj.new ≡ sums_answer (force_row force block.now n) (entries_to n velocities) 0 n mass.now j.old wj.old }
+    block: &[f32; BLOCK],
+    velocities: &[f32; DOFS],
+    lent: &mut Lent<'_>,
+) -> Result<Products, Refusal>
+    requires { (n ≤ dof_limit) × (n * n ≤ length lent.old.mass.now) × (n ≤ length lent.old.j.now) × (n ≤ length lent.old.wj.now) }
+    ensures places { SamePlaces lent.old lent.new }
+    ensures answer { out (sums_as result) lent.new.j.now lent.new.wj.now ≡ sums_answer (force_row force block.now n) (take n velocities.now) 0 n lent.old.mass.now lent.old.j.now lent.old.wj.now }
 {
-    let mut row = [0.0f32; DOFS];
-    fill_row(force, block, &mut row[0..n]);
-    sum_up(&row[0..n], velocities, mass, j, wj)
+    let mut memory = [0.0; DOFS];
+    let row = &mut memory[..n];
+    force.fill_row(block, row);
+    sum_up(row, velocities, lent)
 }
 
 // ---- The call
 
-fn is_finite_force(force: Force) -> bool
-    ensures { result ≡ force_finite force }
-{
-    let values = [force.x, force.y, force.torque];
-    all_finite(&values)
-}
-
+#[tactic(auto, using(arm::proofs::Live::dof_count_le, elimination::proofs::Rows::square_mono), unfolding(crate::specs::Fill::fill_refusal))]
 fn fill_refusal(
-    arm: Arm,
+    arm: &Arm,
     link: u32,
     force: Force,
     tables: &[f32],
-    mass: &[f32],
-    j_room: usize,
-    wj_room: usize,
-) -> u8
-    ensures { result ≡ fill_refusal arm link force tables.now mass.now j_room wj_room }
+    lent: &Lent<'_>,
+) -> Result<(), Refusal>
+    ensures { code result ≡ fill_refusal arm.now link force tables.now lent.now.mass.now (length lent.now.j.now) (length lent.now.wj.now) }
 {
-    let n = dof_count(arm);
-    let at = (link as usize) * BLOCK;
-    let room = (TABLES <= tables.len()) & memory_fits(n, mass, j_room, wj_room);
-    let fine = is_finite_force(force)
-        & is_finite_part(tables, at, BLOCK)
-        & is_finite_part(mass, 0, n * n);
-    let refusals = [
-        unless(room, 1),
-        unless((link as usize) < arm.link_count, 4),
-        unless(fine, 7),
-        arm_refusal(arm),
-    ];
-    lowest(&refusals)
+    let n = arm.dof_count();
+    let fine = force.is_finite()
+        & is_finite_part(tables, (link as usize) * BLOCK, BLOCK)
+        & is_finite_part(lent.mass, 0, n * n);
+    lowest(&[
+        unless((TABLES <= tables.len()) & lent.fits(n), Refusal::Memory),
+        unless((link as usize) < arm.link_count, Refusal::Link),
+        unless(fine, Refusal::NotFinite),
+        arm.refusal(),
+    ])
+}
+
+// A link's block, as the tables keep it.
+fn block_of(tables: &[f32], link: usize) -> &[f32; BLOCK]
+    requires { (link < link_limit) × (table_size ≤ length tables.now) }
+    ensures { result.now ≡ block_at link tables.now }
+{
+    tables[link * BLOCK..].first_chunk().unwrap()
 }
 
 // The first n floats of `j` become the force's part along each DoF, and those of `wj` its solve by the mass matrix, n being the DoF count.
 pub fn fill_jacobians(
-    arm: Arm,
+    arm: &Arm,
     link: u32,
     force: Force,
     tables: &[f32],
     mass: &[f32],
     j: &mut [f32],
     wj: &mut [f32],
-) -> Sums
-    ensures { out result j.new wj.new ≡ fill_answer arm link force tables.now mass.now j.old wj.old }
+) -> Result<Products, Refusal>
+    ensures { out (sums_as result) j.new wj.new ≡ fill_answer arm.now link force tables.now mass.now j.old wj.old }
 {
-    let refusal = fill_refusal(arm, link, force, tables, mass, j.len(), wj.len());
-    if refusal != 0 {
-        return refused_sums(refusal);
-    }
-    let at = (link as usize) * BLOCK;
-    let end = at + BLOCK;
-    let k = row_number(RowName::Velocities);
-    let velocities = arm.rows[k];
+    let mut lent = Lent { mass, j, wj };
+    fill_refusal(arm, link, force, tables, &lent)?;
+    let block = block_of(tables, link as usize);
     fill(
-        dof_count(arm),
+        arm.dof_count(),
         force,
-        &tables[at..end],
-        velocities,
-        mass,
-        j,
-        wj,
+        block,
+        arm.row(RowName::Velocities),
+        &mut lent,
     )
 }
