@@ -1,13 +1,15 @@
 // The whole step of an arm (`integrate` of the multibody): every joint is integrated by one dt, then the arm is worked out in full.
 #![tactic(auto)]
 
-ghost use Rattle.std.specs.Prelude.{◌≡◌, ◌≤◌, length};
+ghost use Rattle.std.specs.Prelude.{◌≡◌, ◌≤◌};
+ghost use Rattle.lists.specs.Tests.{every};
 ghost use Rattle.refusal.specs.Refusal.{code};
-ghost use Rattle.limits.specs.Limits.{link_limit, dof_limit};
+ghost use Rattle.limits.specs.Limits.{link_limit};
+ghost use Rattle.arm.specs.HandedIn.{link_angle_fits};
 ghost use Rattle.arm.specs.Edits.{edited_as};
 ghost use Rattle.full_working.specs.Outcome.{out};
-ghost use Rattle.whole_step.specs.Inner.{all_integrated};
-ghost use Rattle.whole_step.specs.Step.{arm_after, step_refusal, whole_step};
+ghost use Rattle.whole_step.specs.Inner.{front_integrated};
+ghost use Rattle.whole_step.specs.Step.{link_joint_finite, arm_after, step_refusal, whole_step};
 
 use arm::{Arm, Link, RowName, angle_fits};
 use floats::Finite;
@@ -19,33 +21,40 @@ use refusal::{Refusal, lowest, unless};
 
 // ---- Every joint integrated
 
-// Each joint is handed the velocities from its link's start onward.
-fn step_links(links: &mut [Link], velocities: &[f32; DOFS], dt: f32)
-    requires { length links.old ≤ link_limit }
-    ensures { links.new ≡ all_integrated links.old velocities.now dt }
+// Each joint is handed the velocities from its link's start onward. By number: what is written to a lent part of the arm's array, the check loses.
+fn step_links(links: &mut [Link; LINKS], n: usize, velocities: &[f32; DOFS], dt: f32)
+    requires { n ≤ link_limit }
+    ensures { links.new ≡ front_integrated n links.old velocities.now dt }
 {
     let mut start = 0;
-    for link in links {
-        link.joint = integrate(link.joint, &velocities[start..], dt);
-        start += dofs(link.joint.locked);
+    for i in 0..n {
+        let own = &velocities[start..];
+        start += dofs(links[i].joint.locked);
+        links[i].joint = integrate(links[i].joint, own, dt);
     }
 }
 
-// The arm with every joint integrated, and nothing worked out.
-fn step_arm(arm: &Arm, dt: f32) -> Arm
-    ensures { result ≡ arm_after arm.now dt }
+// Nothing is worked out yet.
+fn step_arm(arm: &mut Arm, dt: f32)
+    ensures { arm.new ≡ arm_after arm.old dt }
 {
-    let mut new = *arm;
-    let links = &mut new.links[..];
-    step_links(
-        &mut links[..arm.link_count.min(LINKS)],
-        arm.row(RowName::Velocities),
-        dt,
-    );
-    new
+    let velocities = *arm.row(RowName::Velocities);
+    step_links(&mut arm.links, arm.link_count.min(LINKS), &velocities, dt);
 }
 
 // ---- The step
+
+fn are_angles_fit(links: &[Link]) -> bool
+    ensures { result ≡ every link_angle_fits links.now }
+{
+    links.iter().all(|link| angle_fits(&link.joint))
+}
+
+fn are_joints_finite(links: &[Link]) -> bool
+    ensures { result ≡ every link_joint_finite links.now }
+{
+    links.iter().all(|link| link.joint.is_finite())
+}
 
 // An angle beyond 256 is 9, whatever else overflows; a joint that isn't finite is 12.
 #[tactic(auto, unfolding(crate::specs::Step::step_refusal))]
@@ -56,9 +65,9 @@ fn step_refusal(arm: &Arm, new: &Arm, tables: &[f32], dt: f32) -> Result<(), Ref
     lowest(&[
         unless(tables_fit(tables), Refusal::Memory),
         unless(dt.is_finite(), Refusal::NotFinite),
-        unless(links.iter().all(|l| angle_fits(&l.joint)), Refusal::Beyond),
+        unless(are_angles_fit(links), Refusal::Beyond),
         arm.refusal(),
-        unless(links.iter().all(|l| l.joint.is_finite()), Refusal::Overflow),
+        unless(are_joints_finite(links), Refusal::Overflow),
     ])
 }
 
@@ -66,7 +75,8 @@ fn step_refusal(arm: &Arm, new: &Arm, tables: &[f32], dt: f32) -> Result<(), Ref
 pub fn step(arm: &mut Arm, tables: &mut [f32], dt: f32) -> Result<(), Refusal>
     ensures { out (edited_as arm.new result) tables.new ≡ whole_step arm.old tables.old dt }
 {
-    let mut new = step_arm(arm, dt);
+    let mut new = *arm;
+    step_arm(&mut new, dt);
     step_refusal(arm, &new, tables, dt)?;
     work_all(&mut new, tables)?;
     *arm = new;
