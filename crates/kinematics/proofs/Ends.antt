@@ -1,5 +1,5 @@
 -- The two passes' ends: too short, not finite, or done. Assumes nothing.
-use mathlib.Core.Path.{◌≡◌, refl, sym, ap, ◌∙◌}
+use mathlib.Core.Path.{◌≡◌, refl, sym, ap, subst, ◌∙◌}
 use Prim.Native.Nat.{ℕ, min, ◌*◌, ◌≤◌, ◌<◌}
 use mathlib.Core.Bool.{Bool, true, false}
 use Rattle.std.proofs.lemmas.Bool.{true≢false}
@@ -8,8 +8,7 @@ use native.Mathlib.Omega.{arith}
 use native.Mathlib.Decide.{dec_lt}
 use borrow.Author.Tests.{le-leb}
 use lib.Dec.{leb}
-use lib.ListN.{length, take, drop, replicate, length-replicate, get_or-replicate, length-append, take-append-drop}
-use lib.Seq.{length-take-le}
+use lib.ListN.{length, take, drop, replicate, length-replicate, get_or-replicate, length-append}
 use lib.Ieee.{Float}
 use Rattle.kinematics.specs.Inner.{new_block, WorkedOut, blocks_laid, work_at}
 use Rattle.lists.proofs.Parts.{blocks_same, replicated}
@@ -19,8 +18,9 @@ use Rattle.arm.specs.declared.Link.{Link}
 use Rattle.kinematics.specs.Blocks.{zero_block, block_at}
 use Rattle.kinematics.specs.State.{State, marked, state_after, fine_after, cleared, every_link}
 use Rattle.kinematics.specs.Answers.{Refreshed, out, passed, refresh_marked, refresh_all}
-use Rattle.kinematics.proofs.Laid.{laid_same, laid_block, laid_beyond, laid_length, laid_front}
-use Rattle.kinematics.proofs.Turns.{tables_after, new_size}
+use Rattle.kinematics.proofs.Laid.{laid_same, laid_block, laid_beyond, laid_length}
+use Rattle.kinematics.proofs.Front.{front_length, worked_front, tables_front}
+use Rattle.kinematics.proofs.Turns.{new_size}
 use Rattle.kinematics.proofs.Same.{laid_marks, worked_marks, every_links, every_fine, every_tables}
 
 abbrev pub zeros : List Float
@@ -42,25 +42,16 @@ module _ (f : Bool) (s : State) (ls : List Link) (t : List Float) where
   unfolding passed
   passed_yes h r m p q e = rw h (λ i. out (record { fine = p i; links = q i }) (e i))
 
--- each block laid over, by blocks that agree where either is laid: what lies there before counts for nothing
-laid_over : (n : ℕ) → n ≤ link_limit → (f new : ℕ → List Float) (t : List Float) → table_size ≤ length t → ((j : ℕ) → j < n → length (new j) ≡ block_size)
+-- each block of a list laid over, by blocks that agree where either is laid: what stood there counts for nothing
+laid_over : (n : ℕ) → n ≤ link_limit → (f new : ℕ → List Float) (t : List Float) → length t ≡ table_size → ((j : ℕ) → j < n → length (new j) ≡ block_size)
     → ((j : ℕ) → j < n → f j ≡ new j) → ((j : ℕ) → n ≤ j → j < link_limit → f j ≡ zero_block)
-    → blocks_laid every_link f link_limit t ≡ blocks_laid every_link new n zeros ++ drop table_size t
+    → blocks_laid every_link f link_limit t ≡ blocks_laid every_link new n zeros
 laid_over n fit f new t long size same past =
-    ap (blocks_laid every_link f link_limit) (sym (take-append-drop table_size t))
-    ∙ laid_front every_link f link_limit f_size front (drop table_size t) (omega (arith, front_length)) link_limit (omega arith)
-    ∙ ap (λ (y : List Float). y ++ drop table_size t)
-    (blocks_same block_size link_limit _ _
-    (laid_length every_link f link_limit f_size front (omega (arith, front_length)) link_limit (omega arith) ∙ front_length)
+    blocks_same block_size link_limit _ _
+    (laid_length every_link f link_limit f_size t (omega (arith, long)) link_limit (omega arith) ∙ long)
     (laid_length every_link new n size zeros (omega (arith, enough, zeros_length)) n (omega arith) ∙ zeros_length)
-    (λ j h. laid_block every_link f link_limit f_size front (omega (arith, front_length)) link_limit (omega arith) j h ∙ go j h))
+    (λ j h. laid_block every_link f link_limit f_size t (omega (arith, long)) link_limit (omega arith) j h ∙ go j h)
   where
-    front : List Float
-    front = take table_size t
-
-    front_length : length (take table_size t) ≡ table_size
-    front_length = length-take-le table_size t long
-
     enough : n * block_size ≤ table_size
     enough = omega (arith, fit)
 
@@ -75,7 +66,9 @@ laid_over n fit f new t long size same past =
       | yes q ↦ same j q ∙ sym (laid_block every_link new n size zeros (omega (arith, enough, zeros_length)) n (omega arith) j q)
       | no q ↦
           past j (omega arith) h
-          ∙ sym (laid_beyond every_link new n size zeros (omega (arith, enough, zeros_length)) n (omega arith) j (omega arith) ∙ replicated block_size link_limit zero32 j h)
+          ∙ sym
+          (laid_beyond every_link new n size zeros (omega (arith, enough, zeros_length)) n (omega arith) j (omega arith)
+          ∙ replicated block_size link_limit zero32 j h)
     ]
 
 module _ (ls : List Link) (count : ℕ) (t : List Float) where
@@ -92,20 +85,34 @@ module _ (ls : List Link) (count : ℕ) (t : List Float) where
   unfolding refresh_marked
   is_marked b n e long = rw (e, le-leb table_size (length t) long)
 
-  module _ (sized : length ls ≡ link_limit) (long : table_size ≤ length t) (n : ℕ) (e : n ≡ min count link_limit) (work : List (List Float)) (r : Refreshed) where
+  -- over the front of the memory
+  module _ (sized : length ls ≡ link_limit) (long : table_size ≤ length t) (front : List Float) (ef : front ≡ take table_size t) (n : ℕ) (e : n ≡ min count link_limit)
+      (work : List (List Float)) (r : Refreshed) where
     fit : n ≤ link_limit
     fit = omega arith
 
+    abbrev rest : List Float
+    rest = drop table_size t
+
+    module _ (b : ℕ → Bool) (k : WorkedOut ls n b front no_work work r) where
+      over_front : WorkedOut ls n b (take table_size t) no_work work r
+      over_front = subst (λ (f : List Float). WorkedOut ls n b f no_work work r) ef k
+
+      over_all : WorkedOut ls n b t no_work work r
+      over_all = worked_front ls sized b t long n fit no_work work r over_front
+
     -- ---- the marked links
 
-    module _ (b : ℕ → Bool) (k : WorkedOut ls n b t no_work work r) where
+    module _ (b : ℕ → Bool) (k : WorkedOut ls n b front no_work work r) where
       pub marked_no : r.fine ≡ false → out (record { fine = false; links = ls }) t ≡ refresh_marked ls count b t
-      marked_no h = passed_no _ _ ls t (sym k.test ∙ h) ∙ is_marked b n e long
+      marked_no h = passed_no _ _ ls t (sym (over_all b k).test ∙ h) ∙ is_marked b n e long
 
-      pub marked_yes : r.fine ≡ true → (m : List Float) → m ≡ blocks_laid b (work_at work) n t → out (record { fine = true; links = r.links }) m ≡ refresh_marked ls count b t
+      pub marked_yes : r.fine ≡ true → (m : List Float) → m ≡ blocks_laid b (work_at work) n front → out (record { fine = true; links = r.links }) (m ++ rest) ≡ refresh_marked ls count b t
       marked_yes h m q =
-          passed_yes _ _ ls t (sym k.test ∙ h) _ m refl (k.links h)
-          (q ∙ laid_same b (work_at work) (new_block ls b t) t n (k.marked h) ∙ sym (tables_after ls b t n))
+          passed_yes _ _ ls t (sym (over_all b k).test ∙ h) _ (m ++ rest) refl ((over_all b k).links h)
+          (ap (λ (y : List Float). y ++ rest)
+          (q ∙ ap (blocks_laid b (work_at work) n) ef ∙ laid_same b (work_at work) (new_block ls b (take table_size t)) (take table_size t) n ((over_front b k).marked h))
+          ∙ tables_front ls sized b t long n fit)
           ∙ is_marked b n e long
 
     -- ---- all links
@@ -116,16 +123,16 @@ module _ (ls : List Link) (count : ℕ) (t : List Float) where
     is_every : (j : ℕ) → j < link_limit → every j ≡ every_link j
     is_every j h = get_or-replicate link_limit j true false h
 
-    module _ (k : WorkedOut ls n every t no_work work r) where
+    module _ (k : WorkedOut ls n every front no_work work r) where
       k' : WorkedOut ls n every_link t no_work work r
-      k' = worked_marks ls every every_link t n (λ j h. is_every j (omega (arith, fit))) no_work work r k
+      k' = worked_marks ls every every_link t n (λ j h. is_every j (omega (arith, fit))) no_work work r (over_all every k)
 
       is_all : passed (fine_after ls n every_link (cleared t)) (state_after ls n every_link (cleared t)) ls t ≡ refresh_all ls count t
       unfolding refresh_all
       is_all = rw (e, le-leb table_size (length t) long)
 
       long' : table_size ≤ length (cleared t)
-      long' = omega (arith, length-append zeros (drop table_size t), zeros_length)
+      long' = omega (arith, length-append zeros rest, zeros_length)
 
       test_all : r.fine ≡ fine_after ls n every_link (cleared t)
       test_all = k'.test ∙ every_fine ls sized t (cleared t) long long' n fit
@@ -133,18 +140,20 @@ module _ (ls : List Link) (count : ℕ) (t : List Float) where
       pub all_no : r.fine ≡ false → out (record { fine = false; links = ls }) t ≡ refresh_all ls count t
       all_no h = passed_no _ _ ls t (sym test_all ∙ h) ∙ is_all
 
-      all_tables : r.fine ≡ true → blocks_laid every (work_at work) link_limit t ≡ (state_after ls n every_link (cleared t)).tables
+      all_tables : r.fine ≡ true → blocks_laid every (work_at work) link_limit front ++ rest ≡ (state_after ls n every_link (cleared t)).tables
       all_tables h =
-          laid_marks ls every every_link t (work_at work) t link_limit is_every
-          ∙ laid_over n fit (work_at work) (new_block ls every_link t) t long (new_size ls every_link t n fit sized long)
-          (λ j l. k'.marked h j l refl) (λ j l m. k'.beyond h j l ∙ get_or-replicate link_limit j zero_block [] m)
+          ap (λ (y : List Float). y ++ rest)
+          (laid_marks ls every every_link t (work_at work) front link_limit is_every
+          ∙ laid_over n fit (work_at work) (new_block ls every_link t) front (ap length ef ∙ front_length t long) (new_size ls every_link t n fit sized long)
+          (λ j l. k'.marked h j l refl) (λ j l m. k'.beyond h j l ∙ get_or-replicate link_limit j zero_block [] m))
           ∙ every_tables ls sized n fit t long
 
-      pub all_yes : r.fine ≡ true → (m : List Float) → m ≡ blocks_laid every (work_at work) link_limit t → out (record { fine = true; links = r.links }) m ≡ refresh_all ls count t
+      pub all_yes : r.fine ≡ true → (m : List Float) → m ≡ blocks_laid every (work_at work) link_limit front
+          → out (record { fine = true; links = r.links }) (m ++ rest) ≡ refresh_all ls count t
       all_yes h m q =
-          passed_yes _ _ ls t (sym test_all ∙ h) _ m refl
+          passed_yes _ _ ls t (sym test_all ∙ h) _ (m ++ rest) refl
           (k'.links h ∙ every_links ls sized t (cleared t) long long' n fit)
-          (q ∙ all_tables h)
+          (ap (λ (y : List Float). y ++ rest) q ∙ all_tables h)
           ∙ is_all
 
 -- ---- where a result isn't finite all is as it was

@@ -82,7 +82,7 @@ module _ (b : ℕ → Bool) (new : ℕ → List Float) (N : ℕ) (sized : (j : �
       own false = laid_beyond n (omega arith) n (omega arith)
 
 -- what lies behind the blocks stays
-with_front : (a w : ℕ) (p s r : List Float) → a + w ≤ length s → with_part a w p (s ++ r) ≡ with_part a w p s ++ r
+pub with_front : (a w : ℕ) (p s r : List Float) → a + w ≤ length s → with_part a w p (s ++ r) ≡ with_part a w p s ++ r
 with_front a w p s r h =
     let x : a ≤ length s = omega arith in
     rw (take-append-le a s r x, drop-append-le (a + w) s r h) (sym (append_assoc (take a s) (p ++ drop (a + w) s) r ∙ ap (λ (y : List Float). take a s ++ y) (append_assoc p (drop (a + w) s) r)))

@@ -9,3 +9,4 @@ pub mod One
 pub mod Promises
 pub mod Columns
 pub mod Refused
+pub mod Front

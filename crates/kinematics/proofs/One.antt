@@ -3,7 +3,7 @@
 use mathlib.Core.Path.{◌≡◌, refl, sym, ap, ◌∙◌}
 use mathlib.Core.Logic.{◌≢◌}
 use Prim.Native.Nat.{ℕ, zero, suc, min, ◌-◌, ◌≤◌, ◌<◌}
-use mathlib.Core.Bool.{Bool, true, false, cond, and-true, and-false}
+use mathlib.Core.Bool.{Bool, true, false, cond, and-true, and-false, ◌&&◌}
 use mathlib.Core.List.{List, map}
 use native.Mathlib.Omega.{arith}
 use native.Mathlib.Decide.{dec_lt}
@@ -33,12 +33,18 @@ use Rattle.kinematics.proofs.Ends.{marked_short, is_marked}
 
 -- ---- its turn
 
--- what it is to fit
-pub fits : (start j : ℕ) (t : List Float) → one_fits start j t ≡ true → (table_size ≤ length t) × (j < link_limit) × (start ≤ dof_limit - 3)
-fits start j t h =
-    let all = both_hold _ (leb start (dof_limit - 3)) h in
-    let first = both_hold _ (ltb j link_limit) all.0 in
-    (leb-true _ _ first.0, ltb-true _ _ first.1, leb-true _ _ all.1)
+-- what the code tests of it: the memory, and then its place and its start
+fits_all : (l a b : Bool) → l ≡ true → ((l && a) && b) ≡ (a && b)
+fits_all l a b e = rw e
+
+pub unfit_short : (start j : ℕ) (t : List Float) → leb table_size (length t) ≡ false → one_fits start j t ≡ false
+unfit_short start j t h = rw h
+
+pub place_fits : (start j : ℕ) → (ltb j link_limit && leb start (dof_limit - 3)) ≡ true → (j < link_limit) × (start ≤ dof_limit - 3)
+place_fits start j h = let b = both_hold _ _ h in (ltb-true _ _ b.0, leb-true _ _ b.1)
+
+pub fits_test : (start j : ℕ) (t : List Float) → table_size ≤ length t → one_fits start j t ≡ (ltb j link_limit && leb start (dof_limit - 3))
+fits_test start j t h = fits_all (leb table_size (length t)) (ltb j link_limit) (leb start (dof_limit - 3)) (le-leb table_size (length t) h)
 
 module _ (l above : Link) (start j : ℕ) (t : List Float) where
   abbrev x : Inputs

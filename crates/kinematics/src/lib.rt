@@ -8,6 +8,7 @@ ghost use Rattle.arm.specs.Arm.{link_at};
 ghost use Rattle.refusal.specs.declared.Refusal.{Refusal};
 ghost use Rattle.kinematics.specs.Inner.{copied_from, posed_of, parent_before, TurnedTo, kept_block, WorkedOut, blocks_laid, work_at, one_fits, turned_out, turned, refresh_one};
 ghost use Rattle.limits.specs.Limits.{link_limit, dof_limit, table_size};
+ghost use Rattle.masks.specs.Masks.{axis_number};
 ghost use Rattle.kinematics.specs.Blocks.{block_at, with_block, shifted, column_added, axis_added, own_added};
 ghost use Rattle.kinematics.specs.Link.{root_posed, later_posed, block_from, finite_place};
 ghost use Rattle.kinematics.specs.State.{marked};
@@ -16,7 +17,7 @@ ghost use Rattle.kinematics.specs.Answers.{out, refreshed, refresh_marked, refre
 use arm::Link;
 use floats::{Finite, all_finite};
 use limits::{BLOCK, DOFS, LINKS, TABLES};
-use masks::{dofs, dofs_below, is_free};
+use masks::{Axis, dofs, dofs_below, is_free};
 use multibody_joint::{Joint, body_to_parent};
 use planar::{
     Point, Pose, Rotation, difference, placed, product, rotation_of, rotation_product,
@@ -40,37 +41,69 @@ fn shift_block(block: &mut [f32; BLOCK], shift: Point)
     }
 }
 
-// (x, y, w) more in a column.
+// A column: what a degree of freedom adds in X, in Y and to the angle.
+#[derive(Clone, Copy)]
+struct Column {
+    x: f32,
+    y: f32,
+    w: f32,
+}
+
+// More in a column.
 #[tactic(auto, unfolding(crate::specs::Blocks::column_added))]
-fn add_column(block: &mut [f32; BLOCK], c: usize, x: f32, y: f32, w: f32)
+fn add_column(block: &mut [f32; BLOCK], c: usize, more: Column)
     requires { c < dof_limit }
-    ensures { block.new ≡ column_added c x y w block.old }
+    ensures { block.new ≡ column_added c more.x more.y more.w block.old }
 {
-    block[c] = block[c] + x;
-    block[DOFS + c] = block[DOFS + c] + y;
-    block[2 * DOFS + c] = block[2 * DOFS + c] + w;
+    block[c] = block[c] + more.x;
+    block[DOFS + c] = block[DOFS + c] + more.y;
+    block[2 * DOFS + c] = block[2 * DOFS + c] + more.w;
 }
 
-// The column of an axis, if it is free.
-#[tactic(auto, using(masks::proofs::Laws::below_free, masks::proofs::Laws::dofs_le), unfolding(crate::specs::Blocks::axis_added))]
-fn add_axis(block: &mut [f32; BLOCK], locked: u8, start: usize, axis: u32, x: f32, y: f32, w: f32)
-    requires { start + 3 ≤ dof_limit }
-    ensures { block.new ≡ axis_added locked start axis x y w block.old }
-{
-    if is_free(locked, axis) {
-        add_column(block, start + dofs_below(locked, axis), x, y, w);
+// Where a joint's own columns stand: from its start on, and as many as its axes that aren't locked. Three fit there.
+#[derive(Clone, Copy)]
+struct Own {
+    locked: u8,
+    start: usize,
+    ghost fits: { start + 3 ≤ dof_limit },
+}
+
+impl Own {
+    // The column of an axis, if it is free.
+    #[tactic(auto, using(masks::proofs::Laws::below_free, masks::proofs::Laws::dofs_le), unfolding(crate::specs::Blocks::axis_added))]
+    fn add_axis(self, block: &mut [f32; BLOCK], axis: Axis, more: Column)
+        ensures { block.new ≡ axis_added self.locked self.start (axis_number axis) more.x more.y more.w block.old }
+    {
+        let axis = axis.number();
+        if is_free(self.locked, axis) {
+            add_column(block, self.start + dofs_below(self.locked, axis), more);
+        }
     }
-}
 
-// The joint's own columns, where `turn` is the parent's world rotation times frame 1's.
-#[tactic(auto, unfolding(crate::specs::Blocks::own_added))]
-fn add_own_columns(block: &mut [f32; BLOCK], locked: u8, start: usize, turn: Rotation)
-    requires { start + 3 ≤ dof_limit }
-    ensures { block.new ≡ own_added locked start turn block.old }
-{
-    add_axis(block, locked, start, 0, turn.re, turn.im, 0.0);
-    add_axis(block, locked, start, 1, -turn.im, turn.re, 0.0);
-    add_axis(block, locked, start, 2, 0.0, 0.0, 1.0);
+    // The joint's own columns, where `turn` is the parent's world rotation times frame 1's.
+    #[tactic(auto, unfolding(crate::specs::Blocks::own_added))]
+    fn add_to(self, block: &mut [f32; BLOCK], turn: Rotation)
+        ensures { block.new ≡ own_added self.locked self.start turn block.old }
+    {
+        let x = Column {
+            x: turn.re,
+            y: turn.im,
+            w: 0.0,
+        };
+        let y = Column {
+            x: -turn.im,
+            y: turn.re,
+            w: 0.0,
+        };
+        let angle = Column {
+            x: 0.0,
+            y: 0.0,
+            w: 1.0,
+        };
+        self.add_axis(block, Axis::X, x);
+        self.add_axis(block, Axis::Y, y);
+        self.add_axis(block, Axis::Angle, angle);
+    }
 }
 
 // ---- One link
@@ -138,12 +171,11 @@ fn pose_link(above: Option<Link>, l: &Link) -> Posed
 
 // The block that was copied from the parent's becomes the link's own.
 #[tactic(auto, unfolding(crate::specs::Link::block_from))]
-fn work_block(block: &mut [f32; BLOCK], p: Posed, locked: u8, start: usize)
-    requires { start + 3 ≤ dof_limit }
-    ensures { block.new ≡ block_from p locked start block.old }
+fn work_block(block: &mut [f32; BLOCK], p: Posed, own: Own)
+    ensures { block.new ≡ block_from p own.locked own.start block.old }
 {
     shift_block(block, p.shift02);
-    add_own_columns(block, locked, start, p.turn);
+    own.add_to(block, p.turn);
     shift_block(block, p.shift23);
 }
 
@@ -160,7 +192,11 @@ fn refresh_link(
     ensures refusal { IsOkUnless result Refusal.Overflow }
 {
     let p = pose_link(above, link);
-    work_block(block, p, link.joint.locked, start);
+    let own = Own {
+        locked: link.joint.locked,
+        start,
+    };
+    work_block(block, p, own);
     unless(p.is_finite() & all_finite(block), Refusal::Overflow)?;
     link.world = p.world;
     link.shift02 = p.shift02;
@@ -187,8 +223,8 @@ fn link_above(links: &[Link; LINKS], parent: Option<usize>) -> Option<Link>
 }
 
 // Link p's block, as the tables keep it.
-fn block_of(tables: &[f32], p: usize) -> &[f32; BLOCK]
-    requires { (p < link_limit) × (table_size ≤ length tables.now) }
+fn block_of(tables: &[f32; TABLES], p: usize) -> &[f32; BLOCK]
+    requires { p < link_limit }
     ensures { result.now ≡ block_at p tables.now }
 {
     tables[p * BLOCK..].first_chunk().unwrap()
@@ -202,9 +238,9 @@ fn copy_parent(
     j: usize,
     parent: Option<usize>,
     marks: &[bool; LINKS],
-    tables: &[f32],
+    tables: &[f32; TABLES],
 )
-    requires { (j < link_limit) × (table_size ≤ length tables.now) × IfSome parent (λ p. p < link_limit) }
+    requires { (j < link_limit) × IfSome parent (λ p. p < link_limit) }
     ensures { work.new ≡ set work.old j (copied_from parent (marked marks.now) tables.now work.old) }
 {
     match parent {
@@ -225,11 +261,10 @@ fn work_out(
     links: &mut [Link; LINKS],
     n: usize,
     marks: &[bool; LINKS],
-    tables: &[f32],
+    tables: &[f32; TABLES],
     work: &mut [[f32; BLOCK]; LINKS],
 ) -> Result<(), Refusal>
-    requires n_le_link_limit { n ≤ link_limit }
-    requires table_size_in_bounds { table_size ≤ length tables.now }
+    requires { n ≤ link_limit }
     ensures worked { WorkedOut links.old n (marked marks.now) tables.now work.old work.new (refreshed links.new result) }
     ensures refusal { IsOkUnless result Refusal.Overflow }
 {
@@ -248,8 +283,8 @@ fn work_out(
 }
 
 // Writes link j's block in the tables.
-fn put_block(tables: &mut [f32], j: usize, block: &[f32; BLOCK])
-    requires { (j < link_limit) × (table_size ≤ length tables.old) }
+fn put_block(tables: &mut [f32; TABLES], j: usize, block: &[f32; BLOCK])
+    requires { j < link_limit }
     ensures { tables.new ≡ with_block j block.now tables.old }
 {
     tables[j * BLOCK..(j + 1) * BLOCK].copy_from_slice(block);
@@ -257,9 +292,8 @@ fn put_block(tables: &mut [f32], j: usize, block: &[f32; BLOCK])
 
 // The blocks of the first n links that are marked go from `work` into the tables.
 #[tactic(auto, using(crate::proofs::Laid::laid_none, crate::proofs::Laid::laid_more, crate::proofs::Laid::laid_skip))]
-fn commit(work: &[[f32; BLOCK]; LINKS], n: usize, marks: &[bool; LINKS], tables: &mut [f32])
-    requires n_le_link_limit { n ≤ link_limit }
-    requires table_size_in_bounds { table_size ≤ length tables.old }
+fn commit(work: &[[f32; BLOCK]; LINKS], n: usize, marks: &[bool; LINKS], tables: &mut [f32; TABLES])
+    requires { n ≤ link_limit }
     ensures { tables.new ≡ blocks_laid (marked marks.now) (work_at work.now) n tables.old }
 {
     for j in 0..n {
@@ -280,32 +314,25 @@ pub fn refresh_marked(
     ensures answer { out (refreshed links.new result) tables.new ≡ refresh_marked links.old n (marked marks.now) tables.old }
     ensures refusal { IsOkUnless result Refusal.Overflow }
 {
-    unless(TABLES <= tables.len(), Refusal::Overflow)?;
+    let front = tables.first_chunk_mut().ok_or(Refusal::Overflow)?;
     let count = n.min(LINKS);
     let mut new = *links;
-    let mut work = [[0.0f32; BLOCK]; LINKS];
-    work_out(&mut new, count, marks, tables, &mut work)?;
-    commit(&work, count, marks, tables);
+    let mut work = [[0.0; BLOCK]; LINKS];
+    work_out(&mut new, count, marks, front, &mut work)?;
+    commit(&work, count, marks, front);
     *links = new;
     Ok(())
 }
 
 // The block that a link copies of the tables: its parent's. A root copies zeros.
-fn kept_block(tables: &[f32], parent: Option<usize>) -> [f32; BLOCK]
-    requires { (table_size ≤ length tables.now) × IfSome parent (λ p. p < link_limit) }
+fn kept_block(tables: &[f32; TABLES], parent: Option<usize>) -> [f32; BLOCK]
+    requires { IfSome parent (λ p. p < link_limit) }
     ensures { result ≡ kept_block parent tables.now }
 {
     match parent {
         Some(p) => *block_of(tables, p),
         None => [0.0; BLOCK],
     }
-}
-
-// Are there tables, a place for link j, and three columns from `start` on?
-fn fits_one(tables: &[f32], j: usize, start: usize) -> bool
-    ensures { result ≡ one_fits start j tables.now }
-{
-    (TABLES <= tables.len()) & (j < LINKS) & (start <= DOFS - 3)
 }
 
 // Link j alone, from its parent's link and the block that the tables keep of that: what `refresh_marked` does of a single mark, without a work area for all
@@ -320,11 +347,12 @@ pub fn refresh_one(
     ensures answer { turned_out (turned link.new result) tables.new ≡ refresh_one link.old above.now start j tables.old }
     ensures refusal { IsOkUnless result Refusal.Overflow }
 {
-    unless(fits_one(tables, j, start), Refusal::Overflow)?;
+    let front = tables.first_chunk_mut().ok_or(Refusal::Overflow)?;
+    unless((j < LINKS) & (start <= DOFS - 3), Refusal::Overflow)?;
     let parent = parent_before(link, j);
-    let mut block = kept_block(tables, parent);
+    let mut block = kept_block(front, parent);
     refresh_link(link, parent.and(Some(*above)), start, &mut block)?;
-    put_block(tables, j, &block);
+    put_block(front, j, &block);
     Ok(())
 }
 
@@ -334,12 +362,12 @@ pub fn refresh_all(links: &mut [Link; LINKS], n: usize, tables: &mut [f32]) -> R
     ensures answer { out (refreshed links.new result) tables.new ≡ refresh_all links.old n tables.old }
     ensures refusal { IsOkUnless result Refusal.Overflow }
 {
-    unless(TABLES <= tables.len(), Refusal::Overflow)?;
+    let front = tables.first_chunk_mut().ok_or(Refusal::Overflow)?;
     let every = [true; LINKS];
     let mut new = *links;
-    let mut work = [[0.0f32; BLOCK]; LINKS];
-    work_out(&mut new, n.min(LINKS), &every, tables, &mut work)?;
-    commit(&work, LINKS, &every, tables);
+    let mut work = [[0.0; BLOCK]; LINKS];
+    work_out(&mut new, n.min(LINKS), &every, front, &mut work)?;
+    commit(&work, LINKS, &every, front);
     *links = new;
     Ok(())
 }
