@@ -1,3 +1,3 @@
-mod Rows
-mod Accepted
+pub mod Rows
+pub mod Accepted
 pub mod Theorems

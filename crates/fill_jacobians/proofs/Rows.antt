@@ -1,31 +1,21 @@
 -- j: the columns done are its front, and what is summed with it. Assumes nothing.
-use Prim.Native.Nat.{ℕ, zero, suc, ◌+◌, ◌-◌, ◌≤◌, ◌<◌}
+use Prim.Native.Nat.{ℕ, zero, suc, ◌+◌, ◌≤◌, ◌<◌}
 use mathlib.Core.Path.{◌≡◌, refl, sym, ap, ◌∙◌}
-use mathlib.Core.List.{List, [], ◌∷◌, ◌++◌}
+use mathlib.Core.List.{List, [], ◌∷◌}
 use native.Mathlib.Numerals.{add-one}
-use native.Mathlib.Nat.{sub-zero}
 use native.Mathlib.Omega.{arith}
-use lib.ListN.{length, take, drop, set, replicate, length-append, length-drop, length-replicate}
-use lib.Seq.{take-suc-set, take_all, take_at}
+use lib.ListN.{length, take, set, length-append}
+use lib.Seq.{take-suc-set, take_all}
 use lib.Ieee.{Float}
-use Rattle.limits.specs.Limits.{dof_limit}
-use Rattle.elimination.proofs.Room.{front_length}
 use Rattle.floats.specs.Floats.{zero32, plus, times, sum_from, dot}
 use Rattle.fill_jacobians.specs.declared.Force.{Force}
 use Rattle.fill_jacobians.specs.Sums.{column_of, force_row, sums_of}
-
-abbrev zeros : List Float
-zeros = replicate dof_limit zero32
 
 module _ (f : Force) (b : List Float) where
   pub force_length : (n : ℕ) → length (force_row f b n) ≡ n
   unfolding force_row
   force_length zero = refl
   force_length (suc n) = length-append (force_row f b n) (column_of f b n ∷ []) ∙ omega (arith, force_length n)
-
-  pub force_none : (row : List Float) → take 0 row ≡ force_row f b 0
-  unfolding force_row
-  force_none row = refl
 
   pub force_more : (row : List Float) (c : ℕ) (v : Float) → c < length row → take c row ≡ force_row f b c → v ≡ column_of f b c
       → take (c + 1) (set row c v) ≡ force_row f b (c + 1)
@@ -34,20 +24,6 @@ module _ (f : Force) (b : List Float) where
 
   pub force_all : (row : List Float) (c n : ℕ) → length row ≡ n → n ≤ c → c ≤ n → take c row ≡ force_row f b c → row ≡ force_row f b n
   force_all row c n l h g e = let z : c ≡ n = omega arith in sym (take_all c row (omega arith)) ∙ e ∙ ap (force_row f b) z
-
--- the local j: y is what the columns left of the first n places of zeros
-module _ (f : Force) (b : List Float) (n : ℕ) (y : List Float) (few : n ≤ dof_limit) (ey : y ≡ force_row f b (length (take (n - 0) zeros))) where
-  y_is : y ≡ force_row f b n
-  y_is = ey ∙ ap (force_row f b) (front_length n zeros (omega (arith, length-replicate dof_limit zero32)))
-
-  y_length : length y ≡ n
-  y_length = ap length y_is ∙ force_length f b n
-
-  pub local_row : take (n - 0) (y ++ drop (n - 0) zeros) ≡ force_row f b n
-  local_row = rw sub-zero (take_at y (drop n zeros) n y_length ∙ y_is)
-
-  pub local_length : length (y ++ drop (n - 0) zeros) ≡ dof_limit
-  local_length = rw sub-zero (length-append y (drop n zeros) ∙ omega (arith, y_length, length-drop n zeros, length-replicate dof_limit zero32))
 
 -- ---- no product is summed past the end of j
 

@@ -4,6 +4,7 @@ use Prim.Native.Nat.{ℕ}
 use mathlib.Core.Path.{◌≡◌, refl}
 use mathlib.Core.List.{List}
 use lib.Ieee.{Float, of_bits}
+use Rattle.std.specs.Float.{float_is_finite}
 use Rattle.refusal.specs.Refusal.{Lowest}
 use Rattle.refusal.proofs.Laws.{is_lowest}
 use Rattle.elimination.specs.Elimination.{columns}
@@ -29,5 +30,5 @@ fill_same a b g link f tables mass j wj = rw (same_row a b g Velocities, same_ar
 
 -- with n = 0 nothing is written, and both sums are +0
 pub fill_nothing : (f : Force) (block velocities mass j wj : List Float) → sums_answer (force_row f block 0) velocities 0 0 mass j wj ≡ out (refused_sums 0) j wj
-unfolding sums_answer solved_answer or_then answered force_row dot sums_of of_bits solution substituted columns permuted forward backward
+unfolding sums_answer solved_answer or_then answered force_row dot sums_of of_bits float_is_finite solution substituted columns permuted forward backward
 fill_nothing f block velocities mass j wj = refl

@@ -170,7 +170,7 @@ fn fill_refusal(
     ])
 }
 
-// A link's block, as the tables keep it.
+// A link's block, as the tables keep it. The picture has the same; what requires something is private to its crate.
 fn block_of(tables: &[f32], link: usize) -> &[f32; BLOCK]
     requires { (link < link_limit) × (table_size ≤ length tables.now) }
     ensures { result.now ≡ block_at link tables.now }
@@ -179,6 +179,7 @@ fn block_of(tables: &[f32], link: usize) -> &[f32; BLOCK]
 }
 
 // The first n floats of `j` become the force's part along each DoF, and those of `wj` its solve by the mass matrix, n being the DoF count.
+#[tactic(auto, using(refusal::proofs::Answers::passed, crate::proofs::Accepted::fill_ready, crate::proofs::Accepted::fill_is))]
 pub fn fill_jacobians(
     arm: &Arm,
     link: u32,
