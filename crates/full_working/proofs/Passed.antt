@@ -8,13 +8,13 @@ use lib.Ieee.{Float}
 use Rattle.std.specs.Prelude.{Result, Ok, Err, IsOkUnless}
 use Rattle.refusal.specs.declared.Refusal.{Refusal}
 use Rattle.refusal.specs.Refusal.{number}
-use Rattle.kinematics.specs.Inner.{Turned, turned_out}
+use Rattle.kinematics.specs.Inner.{Turned, turned_out, refreshed}
 use Rattle.arm.specs.Setters.{with_links}
 use Rattle.arm.specs.Edits.{edited_as}
 use Rattle.arm.specs.declared.Arm.{Arm}
 use Rattle.arm.specs.declared.Link.{Link}
 use Rattle.kinematics.specs.State.{only}
-use Rattle.kinematics.specs.Answers.{Outcome as Pass, out as left, refreshed, refresh_marked, refresh_all}
+use Rattle.kinematics.specs.Answers.{Outcome as Pass, out as left, refresh_marked, refresh_all}
 use Rattle.kinematics.proofs.Ends.{all_stays}
 use Rattle.kinematics.proofs.One.{as_marked}
 use Rattle.full_working.specs.Outcome.{out, worked_by, worked_all, worked_marked}

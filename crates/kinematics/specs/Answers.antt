@@ -1,18 +1,13 @@
 -- What the passes answer, and what the lent tables then hold.
-use Rattle.std.specs.Prelude.{ℕ, min, Bool, true, false, ◌&&◌, List, leb, length, Float, Result, is_ok}
+use Rattle.std.specs.Prelude.{ℕ, min, Bool, true, false, ◌&&◌, List, leb, length, Float}
 use Rattle.limits.specs.Limits.{link_limit, table_size}
 use Rattle.arm.specs.declared.Link.{Link}
-use Rattle.refusal.specs.declared.Refusal.{Refusal}
 use Rattle.kinematics.specs.State.{State, state_after, fine_after, cleared, every_link}
 
 -- the links that a pass leaves, and whether every result that it worked out is finite
 pub record Refreshed : Type 0 where
   pub links : List Link
   pub fine : Bool
-
--- those that it leaves, and that it isn't refused
-abbrev pub refreshed : List Link → Result Unit Refusal → Refreshed
-refreshed ls answer = record { links = ls; fine = is_ok answer }
 
 pub record Outcome : Type 0 where
   pub answer : Refreshed

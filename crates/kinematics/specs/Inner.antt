@@ -35,6 +35,10 @@ unfoldable pub posed_of : Option Link → Link → Posed
 posed_of (Some above) l = later_posed above.world above.centre l.joint l.centre
 posed_of None l = root_posed l.joint l.centre
 
+-- the links that a pass leaves, and that it isn't refused
+abbrev pub refreshed : List Link → Result Unit Refusal → Refreshed
+refreshed ls answer = record { links = ls; fine = is_ok answer }
+
 -- a link as its turn leaves it, and whether every result is finite
 pub record Turned : Type 0 where
   pub link : Link

@@ -6,13 +6,13 @@ ghost use Rattle.std.specs.Prelude.{◌≡◌, ◌+◌, ◌≤◌, ◌<◌, leng
 ghost use Rattle.std.specs.Option.{option_map};
 ghost use Rattle.arm.specs.Arm.{link_at};
 ghost use Rattle.refusal.specs.declared.Refusal.{Refusal};
-ghost use Rattle.kinematics.specs.Inner.{copied_from, posed_of, parent_before, TurnedTo, kept_block, WorkedOut, blocks_laid, work_at, one_fits, turned_out, turned, refresh_one};
+ghost use Rattle.kinematics.specs.Inner.{copied_from, posed_of, parent_before, TurnedTo, kept_block, WorkedOut, blocks_laid, work_at, one_fits, turned_out, turned, refresh_one, refreshed};
 ghost use Rattle.limits.specs.Limits.{link_limit, dof_limit, table_size};
-ghost use Rattle.masks.specs.Masks.{axis_number};
+ghost use Rattle.masks.specs.Axis.{axis_number};
 ghost use Rattle.kinematics.specs.Blocks.{block_at, with_block, shifted, column_added, axis_added, own_added};
 ghost use Rattle.kinematics.specs.Link.{root_posed, later_posed, block_from, finite_place};
 ghost use Rattle.kinematics.specs.State.{marked};
-ghost use Rattle.kinematics.specs.Answers.{out, refreshed, refresh_marked, refresh_all};
+ghost use Rattle.kinematics.specs.Answers.{out, refresh_marked, refresh_all};
 
 use arm::Link;
 use floats::{Finite, all_finite};

@@ -1,8 +1,6 @@
 // How large an arm may be. Every size of the library is one of these.
 #![tactic(auto)]
 
-ghost use Rattle.std.specs.Prelude.{◌≡◌, min};
-
 pub const LINKS: usize = 16;
 
 pub const COUPLINGS: usize = 8;
@@ -15,10 +13,3 @@ pub const BLOCK: usize = 3 * DOFS;
 
 // Floats of the tables: a block for each link.
 pub const TABLES: usize = LINKS * BLOCK;
-
-// The smaller count.
-pub fn fewer(a: usize, b: usize) -> usize
-    ensures { result ≡ min a b }
-{
-    if a < b { a } else { b }
-}

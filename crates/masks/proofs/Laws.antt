@@ -6,7 +6,8 @@ use Rattle.std.proofs.Common.{ℕ, zero, suc, min, ◌+◌, ◌≤◌, ◌<◌, 
 use Rattle.refusal.specs.declared.Refusal.{Refusal}
 use Rattle.masks.specs.declared.Axis.{Axis}
 use Rattle.masks.specs.declared.Axis.TheVariants.{X, Y, Angle}
-use Rattle.masks.specs.Masks.{axis_number, NamesAxis, is_axis, one, is_free, dofs_below, dofs_of, bit_of}
+use Rattle.masks.specs.Masks.{is_axis, one, is_free, dofs_below, dofs_of, bit_of}
+use Rattle.masks.specs.Axis.{axis_number, NamesAxis}
 
 pub one_le : (b : Bool) → one b ≤ 1
 one_le true = omega arith

@@ -1,3 +1,4 @@
 pub mod Masks
+pub mod Axis
 pub mod Starts
 pub mod Answers

@@ -1,11 +1,7 @@
 -- Masks of a joint, locked, limit and motor: bit 0 is X, bit 1 is Y, bit 2 the angle. Bits above 2 never count.
-use Rattle.std.specs.Prelude.{ℕ, zero, suc, ◌+◌, ◌/◌, ◌%◌, ◌^◌, Bool, true, false, not, cond, ◌&&◌, List, [], ◌∷◌, ◌++◌, leb, eqb, Float, ◌≡◌, Result, Ok, Err}
+use Rattle.std.specs.Prelude.{ℕ, zero, suc, ◌+◌, ◌/◌, ◌%◌, ◌^◌, Bool, true, false, not, cond, ◌&&◌, List, [], ◌∷◌, ◌++◌, leb, eqb, Float}
 use Rattle.std.specs.Float.{binary32}
 use Rattle.std.specs.Float.Ieee.{of_bits}
-use Rattle.refusal.specs.declared.Refusal.{Refusal}
-use Rattle.refusal.specs.declared.Refusal.TheVariants.{Mask}
-use Rattle.masks.specs.declared.Axis.{Axis}
-use Rattle.masks.specs.declared.Axis.TheVariants.{X, Y, Angle}
 
 -- a mask is at most 7
 abbrev pub is_mask : ℕ → Bool
@@ -14,17 +10,6 @@ is_mask mask = leb mask 7
 -- an axis is at most 2
 abbrev pub is_axis : ℕ → Bool
 is_axis axis = leb axis 2
-
--- an axis' number
-abbrev pub axis_number : Axis → ℕ
-axis_number X = 0
-axis_number Y = 1
-axis_number Angle = 2
-
--- the axis of a number, or that it is none
-abbrev pub NamesAxis : ℕ → Result Axis Refusal → Type 0
-NamesAxis n (Ok axis) = axis_number axis ≡ n
-NamesAxis n (Err refusal) = (refusal ≡ Mask) × (is_axis n ≡ false)
 
 -- the mask's bit of an axis is set
 unfoldable pub bit_of : ℕ → ℕ → Bool

@@ -7,7 +7,8 @@ ghost use Rattle.lists.specs.Lists.{laid};
 ghost use Rattle.refusal.specs.Refusal.{code};
 ghost use Rattle.refusal.specs.Counted.{out, counted};
 ghost use Rattle.limits.specs.Limits.{link_limit};
-ghost use Rattle.masks.specs.Masks.{axis_number, NamesAxis, is_mask, is_axis, bit_of, one, is_free, dofs_below, dofs_of, constraints_at, damping_of, damping_row};
+ghost use Rattle.masks.specs.Masks.{is_mask, is_axis, bit_of, one, is_free, dofs_below, dofs_of, constraints_at, damping_of, damping_row};
+ghost use Rattle.masks.specs.Axis.{axis_number, NamesAxis};
 ghost use Rattle.masks.specs.Starts.{all_masks, starts_of, total_of};
 ghost use Rattle.masks.specs.Answers.{free_answer, dofs_answer, below_answer, starts_refusal, starts_answer, damping_refusal, damping_answer, constraints_answer};
 

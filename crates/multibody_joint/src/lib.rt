@@ -2,7 +2,8 @@
 #![tactic(auto)]
 
 ghost use Rattle.std.specs.Prelude.{◌≡◌};
-ghost use Rattle.masks.specs.Masks.{axis_number, is_free};
+ghost use Rattle.masks.specs.Masks.{is_free};
+ghost use Rattle.masks.specs.Axis.{axis_number};
 ghost use Rattle.multibody_joint.specs.Joint.{new_joint, with_frames, with_motion, coordinate_of, slid_by, body_to_parent, free_joint, fixed_joint, free_pos_set, joint_finite};
 ghost use Rattle.multibody_joint.specs.Motion.{entry_at, integrated_at, renewed, integrated, on_axis, on_axes};
 ghost use Rattle.multibody_joint.specs.Springs.{spring_set, spring_of, spring_finite};
