@@ -1,3 +1,2 @@
-mod Rows
-mod Joints
+pub mod Changed
 pub mod Settled

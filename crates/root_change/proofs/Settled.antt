@@ -35,6 +35,7 @@ use Rattle.arm.specs.declared.Link.{Link}
 use Rattle.arm.specs.declared.Row.{Row}
 use Rattle.arm.specs.declared.Arm.{Arm}
 use Rattle.arm.specs.Arm.{live_links, links_of, couplings_of, tag_of, parent_of, locked_of, masks_of, dof_count_of, entries_to, rows_of, link_at, no_link}
+use Rattle.std.specs.Float.{float_is_finite}
 use Rattle.arm.specs.HandedIn.{joint_masks_fit, link_masks_fit, root_mask_fits, root_fits, link_finite, rows_finite, angle_fits, link_angle_fits, angles_fit, arm_refusal}
 use Rattle.arm.proofs.Live.{dof_count_le}
 use Rattle.full_working.specs.Outcome.{tables_fit}
@@ -116,7 +117,7 @@ module _ (root : Root) (j : Joint) where
   angle_stays h = by_type (λ (k : Joint). angle_fits k ≡ true) root j h h refl refl
 
   finite_stays : length j.coordinates ≡ 3 → finite_pose p ≡ true → joint_finite j ≡ true → joint_finite (root_joint root j) ≡ true
-  unfolding joint_finite finite_pose finite_rotation finite_point rotation_of translation_of of_bits free_pos_set free_joint fixed_joint new_joint
+  unfolding joint_finite finite_pose finite_rotation finite_point rotation_of translation_of of_bits free_pos_set free_joint fixed_joint new_joint float_is_finite
   finite_stays three f h =
       let turn = both_hold (is_finite p.re && is_finite p.im) (is_finite p.x && is_finite p.y) f in
       let place = both_hold (is_finite p.x) (is_finite p.y) turn.1 in
