@@ -8,7 +8,7 @@ use lib.ListN.{length, take, drop, set, length-set, length-drop, drop_of_length-
 use lib.Seq.{drop-set-lt, take-suc-set, append_snoc}
 use lib.Ieee.{Float}
 use Rattle.lists.proofs.Lists.{tail}
-use Rattle.lists.proofs.Parts.{part_length, lent_part}
+use Rattle.lists.proofs.Parts.{lent_part}
 use Rattle.floats.specs.Floats.{zip_to}
 use Rattle.elimination.specs.Elimination.{row, with_row, less, factor_of, reduced_row, reduced}
 
@@ -48,9 +48,6 @@ module _ (n k : ℕ) (pivot : List Float) (i : ℕ) (a : List Float) where
       lent_row =
           let e : (at + n) - at ≡ n = omega arith in
           rw (e, ea)
-
-      pub lent_length : length a ≡ n * n → length (take ((at + n) - at) (drop at a)) ≡ n
-      lent_length l = ap length lent_row ∙ part_length n n a (omega arith) i h
 
       pub reduced_more : (y : List Float) → y ≡ reduced_row k pivot (take ((at + n) - at) (drop at a))
           → reduced n k pivot (n - i) i a ≡ reduced n k pivot (n - (i + 1)) (i + 1) (take at a ++ (y ++ drop ((at + n) - at) (drop at a)))

@@ -1,10 +1,9 @@
 -- Where the rows of an n by n matrix lie in its list; a row read, a row put where it is, two rows swapped. By arithmetic on i · n.
-use mathlib.Core.Path.{◌≡◌, sym, ap, ◌∙◌}
+use mathlib.Core.Path.{◌≡◌, sym, ◌∙◌}
 use mathlib.Core.List.{List}
 use mathlib.Core.Logic.{⊎_elim}
 use Prim.Native.Nat.{ℕ, ◌+◌, ◌*◌, ◌<◌, ◌≤◌}
-use native.Mathlib.Numerals.{add-one}
-use native.Mathlib.Nat.{suc-mul, mul-le-mul_right, mul-le-mul_left, le_trans, eq-or-lt_of_le}
+use native.Mathlib.Nat.{mul-le-mul_right, mul-le-mul_left, le_trans, eq-or-lt_of_le}
 use native.Mathlib.Omega.{arith}
 use lib.ListN.{length, drop, take-append-drop}
 use lib.Seq.{drop-drop}
@@ -15,9 +14,6 @@ use Rattle.floats.proofs.Parts.{copied_whole, copied_over, moved_fits}
 use Rattle.elimination.specs.Elimination.{row, with_row, swapped}
 
 -- ---- places
-
-pub next : (i n : ℕ) → (i + 1) * n ≡ i * n + n
-next i n = ap (λ (j : ℕ). j * n) (add-one i) ∙ suc-mul i n
 
 pub inside : {i n : ℕ} → i < n → i * n + n ≤ n * n
 inside {n = n} h = room n h

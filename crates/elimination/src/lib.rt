@@ -1,4 +1,5 @@
-// The factors of a matrix, by elimination: n by n floats, row after row.
+// The factors of a matrix, by elimination: n by n floats, row after row. Each function that works on the rows is told n, and that they are n by n: of a
+// struct of both, lent by `&mut`, each would have to say that n and the place of the rows stay.
 #![tactic(auto)]
 
 ghost use Rattle.std.specs.Prelude.{◌≡◌, cond, ◌+◌, ◌-◌, ◌*◌, ◌<◌, ◌≤◌, length, leb, is_ok};
