@@ -104,9 +104,8 @@ fn root_changed(arm: &Arm, root: &Root) -> Arm
 {
     let mut new = *arm;
     let old = arm.links[0].joint;
-    new.rows = arm
-        .rows
-        .map(|row| root_row(&row, old.locked, root.locked()));
+    let to = root.locked();
+    new.rows = arm.rows.map(|row| root_row(&row, old.locked, to));
     new.links[0].joint = root.joint(old);
     new
 }

@@ -15,5 +15,5 @@ returns c =
     let a = c.args.arm.now in
     let root = c.args.root.now in
     let rows : c.map-new.result ≡ root_rows a root =
-    mapped _ (root_row (root_mask a) (locked_by root)) _ (λ x y q k. (search rules, search rules)) a.rows _ (record { entries = [] }) (search rules) c.map-new.ensures.items in
+    mapped _ (root_row (root_mask a) (locked_by root)) _ (λ x y q k. (search rules, search rules)) a.rows c.map-new.result (record { entries = [] }) (search rules) c.map-new.ensures.items in
     changed_is a root _ _ rows (ap (with_joint (link_at a.links 0)) c.joint.ensures)
