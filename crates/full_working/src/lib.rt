@@ -16,7 +16,6 @@ use refusal::{Refusal, lower, unless};
 // ---- What a call ends in
 
 // Every link of the arm is worked out, and all of the tables are rewritten; refused, the arm and the tables stay.
-#[tactic(auto, using(crate::proofs::Passed::passed_on))]
 pub fn work_all(arm: &mut Arm, tables: &mut [f32]) -> Result<(), Refusal>
     ensures { out (edited_as arm.new result) tables.new ≡ worked_all arm.old arm.old tables.old }
 {

@@ -28,7 +28,6 @@ use refusal::{Refusal, unless};
 // ---- Jacobian blocks: three rows, a column for each degree of freedom
 
 // Each column (v0, v1, w) becomes (v0 + (−shift.y)·w, v1 + shift.x·w, w).
-#[tactic(auto, using(crate::proofs::Shift::columns_none, crate::proofs::Shift::columns_more, crate::proofs::Shift::columns_done), unfolding(crate::specs::Blocks::shifted))]
 fn shift_block(block: &mut [f32; BLOCK], shift: Point)
     ensures { block.new ≡ shifted shift block.old }
 {
