@@ -98,7 +98,8 @@ fn add_refusal(arm: &Arm, tables: &[f32], new: &NewLink) -> Result<(), Refusal>
 
 // ---- The new link
 
-// Coordinates and springs are zero, the joint rotation is the identity. Its pose and shifts are yet to be worked out.
+// Coordinates and springs are zero, the joint rotation is the identity. Its pose and shifts are yet to be worked out. By `as`: each number fits its byte, so
+// there is nothing to refuse.
 #[tactic(auto, unfolding(crate::specs::NewLink::link_of))]
 fn link_of(new: &NewLink) -> Link
     requires { Small new.now }
@@ -135,6 +136,7 @@ fn set_new_entries(rows: &mut [Row; 5], start: usize, mask: u8)
         set_entries(row, start, n, &[0.0; 3]);
     }
     let mut damping = [0.0; 3];
+    // A mask is not refused, and three places are enough.
     let _ = default_damping(u32::from(mask), &mut damping);
     set_entries(&mut rows[RowName::Damping.number()], start, n, &damping);
 }

@@ -83,6 +83,7 @@ fn narrowed(row: &Row) -> Row
     Row { entries }
 }
 
+// By the root's locked mask, which may be any, and the one that it gets.
 #[tactic(auto, unfolding(crate::specs::Root::root_row))]
 fn root_row(row: &Row, from: u8, to: u8) -> Row
     ensures { result ≡ root_row from to row.now }
