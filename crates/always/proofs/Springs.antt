@@ -23,13 +23,13 @@ use Rattle.masks.specs.Starts.{start_of}
 use Rattle.planar.specs.Poses.{finite_rotation, finite_point, finite_pose}
 use Rattle.multibody_joint.specs.declared.Joint.{Joint}
 use Rattle.multibody_joint.specs.declared.Spring.{Spring}
-use Rattle.multibody_joint.specs.Joint.{with_springs, slid_by, slid_pose, body_to_parent}
-use Rattle.multibody_joint.specs.Springs.{spring_set}
+use Rattle.multibody_joint.specs.Joint.{with_springs, slid_by, slid_pose, body_to_parent, joint_finite}
+use Rattle.multibody_joint.specs.Springs.{spring_finite, spring_set}
 use Rattle.arm.specs.declared.Link.{Link}
 use Rattle.arm.specs.declared.Arm.{Arm}
 use Rattle.arm.specs.Arm.{live_links, links_of, masks_of, no_link, link_at, locked_of}
-use Rattle.arm.specs.HandedIn.{joint_finite, link_finite, angle_fits, link_angle_fits}
-use Rattle.arm_edits.specs.Springs.{spring_finite, spring_entries, spring_refusal, link_spring_set, with_link_spring, arm_spring_set}
+use Rattle.arm.specs.HandedIn.{link_finite, angle_fits, link_angle_fits}
+use Rattle.arm_edits.specs.Springs.{spring_entries, spring_refusal, link_spring_set, with_link_spring, arm_spring_set}
 use Rattle.kinematics.specs.Blocks.{block_at}
 use Rattle.kinematics.specs.Link.{Kept, Inputs, root_posed, later_posed, kept_of, root_kept, later_kept, finite_kept}
 use Rattle.kinematics.specs.State.{State, state, inputs_of, kept_at, kept_ops, parent_at}
