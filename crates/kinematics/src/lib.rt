@@ -27,7 +27,7 @@ use refusal::{Refusal, unless};
 
 // ---- Jacobian blocks: three rows, a column for each degree of freedom
 
-// Each column (v0, v1, w) becomes (v0 + (−shift.y)·w, v1 + shift.x·w, w).
+// Each column (v0, v1, w) becomes (v0 + (−shift.y)·w, v1 + shift.x·w, w). By the column's number: its three places stand in one list.
 fn shift_block(block: &mut [f32; BLOCK], shift: Point)
     ensures { block.new ≡ shifted shift block.old }
 {
@@ -254,7 +254,8 @@ fn copy_parent(
     }
 }
 
-// Of the first n links those marked, rising, each from what is kept of its parent. Their blocks go into `work`.
+// Of the first n links those marked, rising, each from what is kept of its parent. Their blocks go into `work`. By the link's number: a link's parent is
+// read at another place of the lists that are written.
 #[tactic(auto, using(masks::proofs::Laws::dofs_le))]
 fn work_out(
     links: &mut [Link; LINKS],
@@ -289,7 +290,7 @@ fn put_block(tables: &mut [f32; TABLES], j: usize, block: &[f32; BLOCK])
     tables[j * BLOCK..(j + 1) * BLOCK].copy_from_slice(block);
 }
 
-// The blocks of the first n links that are marked go from `work` into the tables.
+// The blocks of the first n links that are marked go from `work` into the tables. By the link's number: C lends the tables as one list of floats.
 #[tactic(auto, using(crate::proofs::Laid::laid_none, crate::proofs::Laid::laid_more, crate::proofs::Laid::laid_skip))]
 fn commit(work: &[[f32; BLOCK]; LINKS], n: usize, marks: &[bool; LINKS], tables: &mut [f32; TABLES])
     requires { n ≤ link_limit }
