@@ -1,5 +1,5 @@
 // The factors of a matrix, by elimination: n by n floats, row after row. Each function that works on the rows is told n, and that they are n by n: of a
-// struct of both, lent by `&mut`, each would have to say that n and the place of the rows stay.
+// struct of both, lent by `&mut`, each would have to say that n and the place of the rows stay. Rows and columns go by number, as the definitions have them.
 #![tactic(auto)]
 
 ghost use Rattle.std.specs.Prelude.{◌≡◌, cond, ◌+◌, ◌-◌, ◌*◌, ◌<◌, ◌≤◌, length, leb, is_ok};
@@ -38,7 +38,7 @@ fn pivot_row(n: usize, k: usize, rows: &[f32]) -> usize
     p
 }
 
-// The factor times the pivot row, taken away from a row.
+// The factor times the pivot row, taken away from a row. By place: of rows that are gone over together the library doesn't say what is written.
 fn take_away(row: &mut [f32], pivot: &[f32], factor: f32)
     requires { length row.old ≡ length pivot.now }
     ensures { row.new ≡ zip_to (less factor) row.old pivot.now }

@@ -188,7 +188,7 @@ pub fn starts(masks: &[u8], lent: &mut [u8]) -> Result<usize, Refusal>
     Ok(fill_starts(masks, lent))
 }
 
-// The default damping of each free axis, rising, goes into the front of `lent`; returned is how many.
+// The default damping of each free axis, rising, goes into the front of `lent`; returned is how many. By the axis' number, as the definition takes it.
 fn fill_damping(mask: u32, lent: &mut [f32]) -> usize
     requires { dofs_of mask ≤ length lent.old }
     ensures { (result ≡ dofs_of mask) × (lent.new ≡ laid (damping_row mask) lent.old) }

@@ -32,6 +32,7 @@ struct Decimal {
     first: usize,
 }
 
+// A loop that ends with the number, wherever in the ten places that is.
 #[tactic(auto, using(crate::proofs::Storing::more_digits, crate::proofs::Storing::next_digit, crate::proofs::Storing::all_digits))]
 fn decimal_of(number: u32) -> Decimal
     ensures { (result.first ≤ 9) × (length result.digits ≡ 10) × (drop result.first result.digits ≡ decimal number) }

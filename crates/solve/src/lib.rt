@@ -24,6 +24,7 @@ fn exchange(x: &mut [f32], p: usize, q: usize)
     }
 }
 
+// By the place: an exchange names two of them.
 fn permute(swaps: &[usize], x: &mut [f32])
     requires { length swaps.now ≡ length x.old }
     ensures { x.new ≡ permuted 0 swaps.now x.old }
@@ -50,6 +51,7 @@ struct Factors<'a> {
     ghost swapped: { length swaps.now ≡ n },
 }
 
+// By the row's number: x is read on one side of it while it is written.
 impl<'a> Factors<'a> {
     #[tactic(auto, using(elimination::proofs::Rows::inside, elimination::proofs::Rows::at_inside))]
     fn forward(&self, x: &mut [f32])

@@ -125,7 +125,8 @@ impl Finite for Limits {
     }
 }
 
-// What a row is made of before the mass matrix; whether the floats that were given are finite, and bound no reversed pair.
+// What a row is made of before the mass matrix; whether the floats that were given are finite, and bound no reversed pair: two flags, since rules 7 and 10 have
+// their places among the other tests.
 #[derive(Clone, Copy)]
 struct Wanted {
     bounds: Bounds,
