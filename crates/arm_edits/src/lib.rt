@@ -113,6 +113,7 @@ pub fn add_coupling(arm: &mut Arm, c: NewCoupling) -> Result<(), Refusal>
     ensures { edited_as arm.new result ≡ coupling_added arm.old c }
 {
     coupling_refusal(arm, c)?;
+    // Each number fits its byte, or it would have been refused.
     arm.couplings[arm.coupling_count] = Coupling {
         link1: c.link1 as u8,
         axis1: c.axis1 as u8,

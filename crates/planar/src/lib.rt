@@ -65,6 +65,7 @@ fn quarter_turns(a: f32) -> u16
     k
 }
 
+// -0 keeps its sign, which `abs` would take.
 fn magnitude(angle: f32) -> f32
     ensures { result ≡ magnitude_of angle }
 {

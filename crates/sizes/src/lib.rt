@@ -42,7 +42,7 @@ const ROW: u32 = DOFS as u32 * WORD;
 
 const LISTS: u32 = LINKS as u32 * LINK + COUPLINGS as u32 * COUPLING + 5 * ROW;
 
-// It ends where a usize could stand.
+// It ends where a usize could stand. Rounded up by hand: a constant is worked out with no call.
 const ARM: u32 = 2 * USIZE + (LISTS + USIZE - 1) / USIZE * USIZE;
 
 // ---- What is given
