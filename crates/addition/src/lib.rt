@@ -69,7 +69,7 @@ impl Finite for NewLink {
     }
 }
 
-// Rule 3: is it none of their tags?
+// Rule 3: is it none of their tags? Over the links themselves, where `arm`'s `is_new` goes over a list of tags.
 fn is_new_tag(links: &[Link], tag: u32) -> bool
     ensures { result ≡ every (tag_differs tag) links.now }
 {

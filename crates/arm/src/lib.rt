@@ -391,7 +391,7 @@ impl Arm {
     }
 
     // 9: does no angle lie beyond 256 either way?
-    fn angles_fit(&self) -> bool
+    pub fn angles_fit(&self) -> bool
         ensures { result ≡ angles_fit self.now }
     {
         self.live_links().iter().all(|l| angle_fits(&l.joint))

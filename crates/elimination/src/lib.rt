@@ -13,7 +13,7 @@ use floats::{all_finite, copy_part, move_part};
 use limits::DOFS;
 use refusal::{Refusal, lowest, unless};
 
-// As the rules say it: `abs` also takes the sign of -0 and of a NaN.
+// As the rules say it: `abs` also takes the sign of -0 and of a NaN. `planar`, which knows nothing of matrices, has one of its own for an angle.
 fn absolute_value(x: f32) -> f32
     ensures { result ≡ absolute x }
 {

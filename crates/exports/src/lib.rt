@@ -43,7 +43,7 @@ pub extern "C" fn giellavor_rotate(angle: f32) -> Rotated
     planar::rotate(angle).into()
 }
 
-// The solve of an n by n matrix, in rows, against a right side; the solution goes into the first n floats of `result`, and n is returned. Refused: 1, 2, 7,
+// The solve of an n by n matrix, in rows, against a right side; the solution goes into the first n floats of `res`, and n is returned. Refused: 1, 2, 7,
 // 11, 12.
 #[unsafe(no_mangle)]
 pub extern "C" fn giellavor_solve(

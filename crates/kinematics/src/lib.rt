@@ -213,7 +213,7 @@ fn parent_before(l: &Link, j: usize) -> Option<usize>
     if p < j { Some(p) } else { None }
 }
 
-// That parent, as the pass has left it.
+// That parent, as the pass has left it. It is a number of a link: three contracts say so, and a struct round it would hold nothing else.
 fn link_above(links: &[Link; LINKS], parent: Option<usize>) -> Option<Link>
     requires { IfSome parent (λ p. p < link_limit) }
     ensures { result ≡ option_map (link_at links.now) parent }
@@ -229,6 +229,17 @@ fn block_of(tables: &[f32; TABLES], p: usize) -> &[f32; BLOCK]
     tables[p * BLOCK..].first_chunk().unwrap()
 }
 
+// The block that a link copies of the tables: its parent's. A root copies zeros.
+fn kept_block(tables: &[f32; TABLES], parent: Option<usize>) -> [f32; BLOCK]
+    requires { IfSome parent (λ p. p < link_limit) }
+    ensures { result ≡ kept_block parent tables.now }
+{
+    match parent {
+        Some(p) => *block_of(tables, p),
+        None => [0.0; BLOCK],
+    }
+}
+
 // Link j's place in the work area takes the block that the link copies: that of its parent, which was just worked out there if the parent is marked,
 // and else is kept in the tables. A root copies zeros.
 #[tactic(auto, unfolding(crate::specs::Inner::copied_from))]
@@ -242,16 +253,10 @@ fn copy_parent(
     requires { (j < link_limit) × IfSome parent (λ p. p < link_limit) }
     ensures { work.new ≡ set work.old j (copied_from parent (marked marks.now) tables.now work.old) }
 {
-    match parent {
-        None => work[j] = [0.0; BLOCK],
-        Some(p) => {
-            if marks[p] {
-                work[j] = work[p];
-            } else {
-                work[j] = *block_of(tables, p);
-            }
-        }
-    }
+    work[j] = match parent {
+        Some(p) if marks[p] => work[p],
+        _ => kept_block(tables, parent),
+    };
 }
 
 // Of the first n links those marked, rising, each from what is kept of its parent. Their blocks go into `work`. By the link's number: a link's parent is
@@ -322,17 +327,6 @@ pub fn refresh_marked(
     commit(&work, count, marks, front);
     *links = new;
     Ok(())
-}
-
-// The block that a link copies of the tables: its parent's. A root copies zeros.
-fn kept_block(tables: &[f32; TABLES], parent: Option<usize>) -> [f32; BLOCK]
-    requires { IfSome parent (λ p. p < link_limit) }
-    ensures { result ≡ kept_block parent tables.now }
-{
-    match parent {
-        Some(p) => *block_of(tables, p),
-        None => [0.0; BLOCK],
-    }
 }
 
 // Link j alone, from its parent's link and the block that the tables keep of that: what `refresh_marked` does of a single mark, without a work area for all

@@ -16,8 +16,8 @@ use arm::{Arm, Link};
 use floats::Finite;
 use full_working::tables_fit;
 use kinematics::{refresh_marked, refresh_one};
-use masks::{is_axis, is_free};
-use multibody_joint::Joint;
+use masks::{Axis, is_axis, is_free};
+use multibody_joint::{Joint, with_frames};
 use one_link::is_finite_above;
 use planar::{Point, Pose, is_beyond, is_turn, rotation_at, rotation_of};
 use refusal::{Refusal, lowest, unless};
@@ -97,13 +97,14 @@ fn with_coordinate(j: Joint, axis: u32, value: f32) -> Joint
     ensures { result ≡ coordinate_set axis value j }
 {
     let mut k = j;
-    match axis {
-        0 | 1 => k.coordinates[axis as usize] = value,
-        2 => {
+    match Axis::try_from(axis) {
+        Ok(Axis::X) => k.coordinates[0] = value,
+        Ok(Axis::Y) => k.coordinates[1] = value,
+        Ok(Axis::Angle) => {
             k.coordinates[2] = value;
             k.rotation = rotation_at(value);
         }
-        _ => {}
+        Err(_) => {}
     }
     k
 }
@@ -120,11 +121,7 @@ impl Change {
                 ..*link
             },
             Change::Frames { first, second } => Link {
-                joint: Joint {
-                    frame1: first,
-                    frame2: second,
-                    ..link.joint
-                },
+                joint: with_frames(link.joint, first, second),
                 ..*link
             },
             Change::Centre(centre) => Link { centre, ..*link },

@@ -11,7 +11,7 @@ use arm::{Arm, Row};
 use floats::Finite;
 use full_working::{tables_fit, work_all};
 use limits::DOFS;
-use multibody_joint::{Joint, fixed, free, set_free_pos};
+use multibody_joint::{Joint, fixed, free, set_free_pos, with_frames};
 use planar::{Pose, is_turn, rotation_of};
 use refusal::{Refusal, lowest, unless};
 
@@ -52,10 +52,7 @@ impl Root {
         match *self {
             Root::Free(pose) if old.locked == 0 => set_free_pos(old, pose),
             Root::Free(pose) => free(pose),
-            Root::Fixed(pose) if old.locked == 7 => Joint {
-                frame1: pose,
-                ..old
-            },
+            Root::Fixed(pose) if old.locked == 7 => with_frames(old, pose, old.frame2),
             Root::Fixed(pose) => fixed(pose),
         }
     }

@@ -51,7 +51,7 @@ struct Factors<'a> {
     ghost swapped: { length swaps.now ≡ n },
 }
 
-// By the row's number: x is read on one side of it while it is written.
+// By the row's number: x is read on one side of it while it is written; so x is a slice of its own, and its length stands in each contract.
 impl<'a> Factors<'a> {
     #[tactic(auto, using(elimination::proofs::Rows::inside, elimination::proofs::Rows::at_inside))]
     fn forward(&self, x: &mut [f32])

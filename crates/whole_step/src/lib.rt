@@ -5,13 +5,12 @@ ghost use Rattle.std.specs.Prelude.{◌≡◌, ◌≤◌};
 ghost use Rattle.lists.specs.Tests.{every};
 ghost use Rattle.refusal.specs.Refusal.{code};
 ghost use Rattle.limits.specs.Limits.{link_limit};
-ghost use Rattle.arm.specs.HandedIn.{link_angle_fits};
 ghost use Rattle.arm.specs.Edits.{edited_as};
 ghost use Rattle.full_working.specs.Outcome.{out};
 ghost use Rattle.whole_step.specs.Inner.{front_integrated};
 ghost use Rattle.whole_step.specs.Step.{link_joint_finite, arm_after, step_refusal, whole_step};
 
-use arm::{Arm, Link, RowName, angle_fits};
+use arm::{Arm, Link, RowName};
 use floats::Finite;
 use full_working::{tables_fit, work_all};
 use limits::{DOFS, LINKS};
@@ -44,12 +43,6 @@ fn step_arm(arm: &mut Arm, dt: f32)
 
 // ---- The step
 
-fn are_angles_fit(links: &[Link]) -> bool
-    ensures { result ≡ every link_angle_fits links.now }
-{
-    links.iter().all(|link| angle_fits(&link.joint))
-}
-
 fn are_joints_finite(links: &[Link]) -> bool
     ensures { result ≡ every link_joint_finite links.now }
 {
@@ -61,13 +54,12 @@ fn are_joints_finite(links: &[Link]) -> bool
 fn step_refusal(arm: &Arm, new: &Arm, tables: &[f32], dt: f32) -> Result<(), Refusal>
     ensures { code result ≡ step_refusal arm.now new.now tables.now dt }
 {
-    let links = new.live_links();
     lowest(&[
         unless(tables_fit(tables), Refusal::Memory),
         unless(dt.is_finite(), Refusal::NotFinite),
-        unless(are_angles_fit(links), Refusal::Beyond),
+        unless(new.angles_fit(), Refusal::Beyond),
         arm.refusal(),
-        unless(are_joints_finite(links), Refusal::Overflow),
+        unless(are_joints_finite(new.live_links()), Refusal::Overflow),
     ])
 }
 
