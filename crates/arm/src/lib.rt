@@ -236,7 +236,7 @@ fn root_fits(links: &[Link]) -> bool
         .is_none_or(|root| (root.joint.locked == 7) | (root.joint.locked == 0))
 }
 
-// The sum of their DoFs.
+// The sum of their DoFs. Summed by hand: what the library's `sum` asks for is a bound on the sum of the list, and here it is the list's length.
 fn total_dofs(links: &[Link]) -> usize
     requires { length links.now ≤ link_limit }
     ensures { result ≡ total_of (map locked_of links.now) }
@@ -300,7 +300,7 @@ impl Arm {
         self.links.map(|link| link.tag)
     }
 
-    // The parent of each place for a link, whether it counts or not.
+    // The parent of each place for a link, whether it counts or not. Who wants those that count cuts them off: a part of a local array can't be handed back.
     pub fn parents(&self) -> [u8; LINKS]
         ensures { result ≡ map parent_of self.now.links }
     {

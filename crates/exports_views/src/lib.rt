@@ -119,6 +119,7 @@ pub extern "C" fn giellavor_arm_split_cut(arm: Arm, link: u32, map: &mut [u8]) -
 
 // ---- Rows
 
+// No conversion of the view's answer alone: where the part begins the arm says.
 fn row_part(arm: &Arm, role: Role, link: u32, velocities: &[f32], accelerations: &[f32]) -> RowPart
     ensures { result ≡ place_of arm.now role link velocities.now accelerations.now }
 {

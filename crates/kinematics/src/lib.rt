@@ -295,7 +295,8 @@ fn put_block(tables: &mut [f32; TABLES], j: usize, block: &[f32; BLOCK])
     tables[j * BLOCK..(j + 1) * BLOCK].copy_from_slice(block);
 }
 
-// The blocks of the first n links that are marked go from `work` into the tables. By the link's number: C lends the tables as one list of floats.
+// The blocks of the first n links that are marked go from `work` into the tables. By the link's number: of chunks that are written the library doesn't
+// say which.
 #[tactic(auto, using(crate::proofs::Laid::laid_none, crate::proofs::Laid::laid_more, crate::proofs::Laid::laid_skip))]
 fn commit(work: &[[f32; BLOCK]; LINKS], n: usize, marks: &[bool; LINKS], tables: &mut [f32; TABLES])
     requires { n ≤ link_limit }

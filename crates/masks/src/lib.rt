@@ -154,7 +154,7 @@ fn all_masks(masks: &[u8]) -> bool
     masks.iter().all(|mask| is_mask(u32::from(*mask)))
 }
 
-// The starts go into the front of `lent`; returned is the total.
+// The starts go into the front of `lent`; returned is the total. By place: of two lists that are gone over together the library doesn't say what is written.
 fn fill_starts(masks: &[u8], lent: &mut [u8]) -> usize
     requires { (length masks.now ≤ link_limit) × (length masks.now ≤ length lent.old) }
     ensures { (result ≡ total_of masks.now) × (lent.new ≡ laid (starts_of masks.now) lent.old) }

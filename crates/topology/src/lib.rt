@@ -71,7 +71,7 @@ pub fn branch_length(parents: &[u8], link: usize) -> usize
     n
 }
 
-// Writes the branch of a link, n links long, from the link up to the root.
+// Writes the branch of a link, n links long, from the link up to the root. By places, the last first.
 fn write_branch(parents: &[u8], link: usize, n: usize, to: &mut [u8])
     requires parents_len_bound { length parents.now ≤ link_limit }
     requires n_value { n ≡ length (branch parents.now link) }
