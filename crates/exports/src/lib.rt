@@ -64,7 +64,8 @@ pub extern "C" fn giellavor_solve(
 pub extern "C" fn giellavor_empty(tables: &mut [f32]) -> Edited
     ensures { out result tables.new ≡ emptied tables.old }
 {
-    full_working::empty(tables).into()
+    let answer = full_working::clear_tables(tables);
+    Edited::of(Arm::empty(), answer)
 }
 
 // A link is added behind the last. Refused: 1 to 5, 7 to 9, 12.

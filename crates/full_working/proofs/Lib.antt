@@ -1,4 +1,5 @@
 pub mod Refused
+pub mod Cleared
 pub mod Exits
 pub mod Passed
 pub mod Again

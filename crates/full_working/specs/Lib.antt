@@ -1,3 +1,4 @@
 pub mod Outcome
 pub mod Full
 pub mod Empty
+pub mod Inner

@@ -7,6 +7,7 @@ ghost use Rattle.arm.specs.Edits.{edited_as, made_as};
 ghost use Rattle.full_working.specs.Outcome.{out, tables_fit, worked_all};
 ghost use Rattle.full_working.specs.Full.{full_refusal, full_working};
 ghost use Rattle.full_working.specs.Empty.{emptied};
+ghost use Rattle.full_working.specs.Inner.{cleared_as, tables_cleared};
 
 use arm::Arm;
 use kinematics::refresh_all;
@@ -49,12 +50,20 @@ pub fn full_working(arm: &mut Arm, tables: &mut [f32]) -> Result<(), Refusal>
 
 // ---- The empty arm
 
-// An arm of no links; its tables hold +0.
-#[tactic(auto, unfolding(crate::specs::Empty::emptied))]
-pub fn empty(tables: &mut [f32]) -> Result<Arm, Refusal>
-    ensures { out (made_as result) tables.new ≡ emptied tables.old }
+// The tables of an arm of no links: +0.
+#[tactic(auto, unfolding(crate::specs::Inner::tables_cleared))]
+pub fn clear_tables(tables: &mut [f32]) -> Result<(), Refusal>
+    ensures { cleared_as (code result) tables.new ≡ tables_cleared tables.old }
 {
     unless(tables_fit(tables), Refusal::Memory)?;
     tables[..TABLES].fill(0.0);
+    Ok(())
+}
+
+// An arm of no links; its tables hold +0. C is told of one by way of `clear_tables`: an arm that comes in a `Result` is copied more often.
+pub fn empty(tables: &mut [f32]) -> Result<Arm, Refusal>
+    ensures { out (made_as result) tables.new ≡ emptied tables.old }
+{
+    clear_tables(tables)?;
     Ok(Arm::empty())
 }

@@ -1,6 +1,7 @@
 pub mod Bools
 pub mod Every
 pub mod Filled
+pub mod Folds
 pub mod Gathered
 pub mod Lists
 pub mod Mapped

@@ -78,16 +78,19 @@ fn free(mask: u32, axis: u32) -> bool
     Axis::try_from(axis).is_ok_and(|axis| !bit(mask, axis))
 }
 
-// `dofs_below`, of any numbers. A loop, since `filter` and `count` over the range take five times as long.
-#[tactic(auto, using(crate::proofs::Laws::below_none, crate::proofs::Laws::below_next, crate::proofs::Laws::below_three, crate::proofs::Laws::below_le_axis, crate::proofs::Laws::from_le))]
+// `dofs_below`, of any numbers. Axis by axis: a loop over the axes takes half as long again where a list of masks is gone over.
 fn free_below(mask: u32, axis: u32) -> usize
     ensures { result ≡ dofs_below mask axis }
 {
-    let mut count = 0;
-    for below in 0..axis.min(3) {
-        count += usize::from(free(mask, below));
+    let x = usize::from(free(mask, 0));
+    let y = usize::from(free(mask, 1));
+    let angle = usize::from(free(mask, 2));
+    match axis {
+        0 => 0,
+        1 => x,
+        2 => x + y,
+        _ => x + y + angle,
     }
-    count
 }
 
 // Is it one of the three axes, and free?
@@ -147,11 +150,13 @@ pub fn dof_count_below(mask: u32, axis: u32) -> Result<usize, Refusal>
     Ok(free_below(mask, axis))
 }
 
-// Is each at most 7?
+// Is each at most 7? No branch in the loop, so that it is compiled to wide instructions.
 fn all_masks(masks: &[u8]) -> bool
     ensures { result ≡ all_masks masks.now }
 {
-    masks.iter().all(|mask| is_mask(u32::from(*mask)))
+    masks
+        .iter()
+        .fold(true, |ok, mask| ok & is_mask(u32::from(*mask)))
 }
 
 // The starts go into the front of `lent`; returned is the total. By place: of two lists that are gone over together the library doesn't say what is written.

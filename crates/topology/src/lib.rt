@@ -143,10 +143,10 @@ impl Split {
 // What stands in the map for part and number of the deleted link.
 pub const GONE: u8 = 255;
 
-// The part of each link, None for the deleted one, and the part count.
+// The part of each link, None for the deleted one, and the part count. A part is a byte, as the map has it: sixteen of them are cleared and read at once.
 #[derive(Clone, Copy)]
 struct Parts {
-    of: [Option<usize>; LINKS],
+    of: [Option<u8>; LINKS],
     count: usize,
 }
 
@@ -162,7 +162,7 @@ fn parts_of(parents: &[u8], s: Split) -> Parts
         let p = *p as usize;
         of[j] = if s.is_head(j, p) {
             count += 1;
-            Some(count - 1)
+            Some((count - 1) as u8)
         } else if s.is_survivor(j) {
             of[p]
         } else {
@@ -173,7 +173,7 @@ fn parts_of(parents: &[u8], s: Split) -> Parts
 }
 
 // Writes part and number of each of n links: a link's number is how many of its part came before it.
-fn write_map(of: &[Option<usize>; LINKS], n: usize, map: &mut [u8])
+fn write_map(of: &[Option<u8>; LINKS], n: usize, map: &mut [u8])
     requires n_le_link_limit { n ≤ link_limit }
     requires n_in_bounds { 2 * n ≤ length map.old }
     requires parts_below { PartsBelow n of.now }
@@ -184,9 +184,9 @@ fn write_map(of: &[Option<usize>; LINKS], n: usize, map: &mut [u8])
     for j in 0..n {
         let (part, number) = match of[j] {
             Some(part) => {
-                let number = seen[part];
-                seen[part] += 1;
-                (part as u8, number)
+                let number = seen[part as usize];
+                seen[part as usize] += 1;
+                (part, number)
             }
             None => (GONE, GONE),
         };

@@ -2,7 +2,7 @@
 use Rattle.std.proofs.Common.{◌∙◌, Bool, true, ◌&&◌, Float, Bor, rules}
 use Rattle.std.proofs.lemmas.Iterator.{YieldsList-from_slice}
 use Rattle.floats.specs.Floats.{is_finite}
-use Rattle.floats.proofs.Folds.{whole_items, fold_read, fold_every}
+use Rattle.lists.proofs.Folds.{whole_items, fold_read, fold_every}
 use Rattle.floats.proofs.all_finite.Goals as goal
 
 pub returns : goal.returns

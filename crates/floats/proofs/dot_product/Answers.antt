@@ -4,7 +4,8 @@ use Rattle.std.specs.List.{zip}
 use Rattle.std.specs.Slice.Iter.{iter_rest}
 use Rattle.std.proofs.lemmas.Iterator.{YieldsList-from_slice, YieldsList-from_zip}
 use Rattle.floats.specs.Floats.{dot, zero32}
-use Rattle.floats.proofs.Folds.{whole_items, fold_read, add_product, fold_products}
+use Rattle.lists.proofs.Folds.{whole_items, fold_read}
+use Rattle.floats.proofs.Folds.{add_product, fold_products}
 use Rattle.floats.proofs.dot_product.Goals as goal
 
 pub returns : goal.returns

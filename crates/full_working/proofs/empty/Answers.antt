@@ -1,18 +1,9 @@
--- `empty`: tables that are long enough are cleared. Assumes nothing.
-use Rattle.std.proofs.Common.{arith}
-use Rattle.std.proofs.Math.Seq.{length-take-le}
-use Rattle.limits.specs.Limits.{table_size}
-use Rattle.full_working.specs.Empty.{emptied}
-use Rattle.full_working.proofs.Refused.{fits_past}
+-- `empty`: the empty arm, beside tables that are cleared. Assumes nothing.
+use Rattle.full_working.proofs.Cleared.{made_empty, unmade_empty}
 use Rattle.full_working.proofs.empty.Goals as goal
 
-pub slice_bounds-fill-end-2 : goal.slice_bounds-fill-end-2
-slice_bounds-fill-end-2 c =
-    let fits = fits_past c.args.tables.now _ c.tables_fit.ensures c.unless.ensures c.in_ok-unless.was in
-    omega (arith, length-take-le table_size c.args.tables.now fits.1)
+pub returns-in_err-clear_tables : goal.returns-in_err-clear_tables
+returns-in_err-clear_tables c = unmade_empty c.args.tables.now _ c.clear_tables.ensures c.in_err-clear_tables.was _ c.from_residual.ensures.1
 
 pub returns : goal.returns
-unfolding emptied
-returns c =
-    let fits = fits_past c.args.tables.now _ c.tables_fit.ensures c.unless.ensures c.in_ok-unless.was in
-    rw (fits.0, c.empty.ensures, c.fill.ensures.after (λ y e. e), length-take-le table_size c.args.tables.now fits.1)
+returns c = made_empty c.args.tables.now _ c.clear_tables.ensures c.in_ok-clear_tables.was _ c.empty.ensures

@@ -2,7 +2,7 @@
 use Rattle.std.proofs.Common.{◌∙◌, Float, Bor, rules}
 use Rattle.std.specs.List.{zip}
 use Rattle.std.proofs.lemmas.Iterator.{YieldsList-from_slice, YieldsList-from_zip}
-use Rattle.floats.proofs.Folds.{whole_items, fold_read}
+use Rattle.lists.proofs.Folds.{whole_items, fold_read}
 use Rattle.solve.proofs.Substitution.{less_product, fold_products}
 use Rattle.solve.proofs.less_products.Goals as goal
 

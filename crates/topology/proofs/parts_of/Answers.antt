@@ -15,6 +15,9 @@ loop-j-init c = passed_none c.args.parents.now c.args.s (replicate link_limit No
 pub overflow_add-count : goal.overflow_add-count
 overflow_add-count c = omega (arith, rank_le c.args.parents.now c.args.s c.loop-j.j, c.loop-j.invariant.counted, c.requires.parents_len_bound)
 
+pub overflow_cast-of : goal.overflow_cast-of
+overflow_cast-of c = omega (arith, rank_le c.args.parents.now c.args.s c.loop-j.j, c.loop-j.invariant.counted, c.requires.parents_len_bound)
+
 pub bounds-of-p : goal.bounds-of-p
 unfolding is_head
 bounds-of-p c =
