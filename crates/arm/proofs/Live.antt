@@ -1,13 +1,14 @@
 -- The links that count, in an arm whose arrays have their lengths: as many as the count says, each the array's own. Assumes nothing.
 use Prim.Native.Nat.{ℕ, zero, suc, min, ◌+◌, ◌-◌, ◌≤◌, ◌<◌}
 use mathlib.Core.Path.{◌≡◌, refl, sym, ◌∙◌, ap}
-use mathlib.Core.Bool.{Bool}
+use mathlib.Core.Bool.{Bool, true, ◌||◌}
 use mathlib.Core.Logic.{inl, inr}
 use mathlib.Core.List.{List, [], ◌∷◌, map}
 use native.Mathlib.Nat.{eq-zero-or-pos}
 use native.Mathlib.Omega.{arith}
 use lib.ListN.{length, take, get_or, length-take, length-map}
 use lib.Seq.{get_or-take, length-take-le}
+use lib.Dec.{eqb}
 use Rattle.lists.specs.Tests.{every}
 use Rattle.lists.proofs.Every.{every_map}
 use Rattle.lists.proofs.Lists.{map-take, map_at}
@@ -22,7 +23,7 @@ use Rattle.arm.specs.declared.Row.{Row}
 use Rattle.floats.specs.Floats.{all_finite}
 use Rattle.arm.specs.Inner.{row_finite}
 use Rattle.arm.specs.Arm.{live_links, links_of, locked_of, parent_of, tag_of, tags_of, parents_of, masks_of, mask_at, start_at, dof_count_of, entries_to, rows_of}
-use Rattle.arm.specs.HandedIn.{rows_finite}
+use Rattle.arm.specs.HandedIn.{root_mask_fits, rows_finite}
 
 -- whatever the arrays are, no more count than fit
 pub links_le : (a : Arm) → length (links_of a) ≤ link_limit
@@ -48,6 +49,10 @@ module _ (a : Arm) (whole : length a.links ≡ link_limit) where
   pub masks_live : length (masks_of a) ≡ live_links a
   unfolding masks_of
   masks_live = length-map (links_of a) locked_of ∙ links_live
+
+  pub tags_live : length (tags_of a) ≡ live_links a
+  unfolding tags_of
+  tags_live = length-map (links_of a) tag_of ∙ links_live
 
   pub parents_live : length (parents_of a) ≡ live_links a
   unfolding parents_of
@@ -83,6 +88,10 @@ module _ (a : Arm) (whole : length a.links ≡ link_limit) where
   pub tags_front : take (live_links a) (map tag_of a.links) ≡ tags_of a
   unfolding tags_of links_of
   tags_front = map-take tag_of (live_links a) a.links
+
+  pub masks_front : take (live_links a) (map locked_of a.links) ≡ masks_of a
+  unfolding masks_of links_of
+  masks_front = map-take locked_of (live_links a) a.links
 
   pub parents_front : take (live_links a) (map parent_of a.links) ≡ parents_of a
   unfolding parents_of links_of
@@ -137,3 +146,14 @@ below_three mask axis = omega (arith, below-le mask axis, dofs_le mask)
 
 pub dofs_small : (mask r : ℕ) → r ≡ dofs_of mask → r ≤ 3
 dofs_small mask r e = omega (arith, dofs_le mask)
+
+-- ---- the root
+
+pub root_none : (ms : List ℕ) (n : ℕ) → n ≡ 0 → true ≡ root_mask_fits (take n ms)
+root_none ms n e = rw e
+
+pub root_some : (ms : List ℕ) (n d : ℕ) → 0 < length ms → (n ≡ 0 → ⊥)
+    → (eqb (get_or ms 0 d) 7 || eqb (get_or ms 0 d) 0) ≡ root_mask_fits (take n ms)
+root_some ms zero d l h = absurd (h refl)
+root_some [] (suc n) d l h = absurd (omega arith)
+root_some (m ∷ ms) (suc n) d l h = refl

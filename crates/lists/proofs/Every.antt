@@ -1,8 +1,8 @@
 -- A test of each of a list: as a loop makes it, what is tested so far, with what is left, is the whole test; at each place; of the list's parts, of a list
 -- joined, changed or seen through f. By the list.
 use Prim.Native.Nat.{ℕ, zero, suc, ◌+◌, ◌≤◌, ◌<◌}
-use mathlib.Core.Path.{◌≡◌, refl, sym, ◌∙◌, ap}
-use mathlib.Core.Bool.{Bool, true, ◌&&◌, and-true, and_assoc}
+use mathlib.Core.Path.{◌≡◌, refl, sym, subst, ◌∙◌, ap}
+use mathlib.Core.Bool.{Bool, true, false, ◌&&◌, and-true, and_assoc}
 use mathlib.Core.List.{List, [], ◌∷◌, ◌++◌, map}
 use native.Mathlib.Omega.{arith}
 use native.Mathlib.Numerals.{add-one}
@@ -26,12 +26,20 @@ module _ {A : Type 0} (test : A → Bool) where
   pub tested_all : (xs : List A) (i : ℕ) (ok : Bool) → length xs ≤ i → Tested xs i ok → ok ≡ every test xs
   tested_all xs i ok h t = sym (t ∙ rw (drop_of_length-le xs h) (and-true ok))
 
+  -- where one has failed, no more need be tested
+  pub tested_failed : (xs : List A) (i j : ℕ) (ok f : Bool) → ok ≡ false → f ≡ ok → Tested xs i ok → Tested xs j f
+  tested_failed xs i j ok f e q t = t ∙ rw (q, e)
+
   -- the same of the first n of a list
   module _ (xs : List A) (n : ℕ) (fits : n ≤ length xs) where
     pub front_more : (i : ℕ) (ok r : Bool) (d : A) → i < n → r ≡ test (get_or xs i d) → Tested (take n xs) i ok
         → Tested (take n xs) (i + 1) (ok && r)
     front_more i ok r d h e t =
         tested_more (take n xs) i ok r d (omega (arith, length-take-le n xs fits)) (e ∙ ap test (sym (get_or-take n xs i d h))) t
+
+    -- of the next, where none has failed
+    pub front_next : (i : ℕ) (ok f : Bool) (d : A) → i < n → ok ≡ true → f ≡ test (get_or xs i d) → Tested (take n xs) i ok → Tested (take n xs) (i + 1) f
+    front_next i ok f d h o e t = subst (λ (b : Bool). Tested (take n xs) (i + 1) (b && f)) o (front_more i ok f d h e t)
 
     pub front_all : (i : ℕ) (ok : Bool) → n ≤ i → Tested (take n xs) i ok → ok ≡ every test (take n xs)
     front_all i ok h t = tested_all (take n xs) i ok (omega (arith, length-take-le n xs fits)) t

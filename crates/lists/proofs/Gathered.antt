@@ -29,6 +29,10 @@ module _ {A : Type 0} (g : ℕ → List A) where
     laid_none = record { list = refl; counted = refl }
 
     module _ (j : ℕ) (out : List A) (count : ℕ) (t : Laid g blanks j out count) where
+      -- the same under other names
+      pub laid_as : (out' : List A) (count' : ℕ) → out' ≡ out → count' ≡ count → Laid g blanks j out' count'
+      laid_as out' count' e f = record { list = e ∙ t.list; counted = f ∙ t.counted }
+
       pub laid_length : count ≤ length blanks → length out ≡ length blanks
       laid_length h = ap length t.list ∙ length-laid (gathered j g) blanks (omega (arith, t.counted))
 

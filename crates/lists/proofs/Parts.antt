@@ -3,13 +3,13 @@
 use mathlib.Core.Path.{◌≡◌, refl, sym, ap, ap₂, ◌∙◌}
 use mathlib.Core.Logic.{◌≢◌}
 use Prim.Native.Nat.{ℕ, zero, suc, min, ◌+◌, ◌*◌, ◌-◌, ◌≤◌, ◌<◌}
-use mathlib.Core.List.{List, [], ◌∷◌, ◌++◌}
+use mathlib.Core.List.{List, [], ◌∷◌, ◌++◌, append_assoc}
 use native.Mathlib.Omega.{arith}
 use native.Mathlib.Nat.{zero-mul, suc-mul, mul-le-mul_right, add-sub_of_le}
 use native.Mathlib.Decide.{dec_lt}
 use native.Mathlib.Numerals.{add-one}
 use lib.ListN.{length, get_or, set, get_or-append, take, drop, length-drop, length-append, take-append-drop, replicate, length-replicate, replicate-append-replicate}
-use lib.Seq.{take_at, drop_at, drop-append-le, take-append-le, length-take-le, drop-drop, take-take, get_or-take, get_or-drop, take_all, drop-length, drop-nil, paste, paste-suc}
+use lib.Seq.{take_at, drop_at, drop-append-le, take-append-le, length-take-le, drop-drop, take-take, get_or-take, get_or-drop, take_all, drop-length, drop-nil, take-nil, paste, paste-suc}
 use Rattle.lists.specs.Lists.{part, with_part}
 
 pub take_drop_take : {A : Type 0} (b w a : ℕ) (d : List A) → b + w ≤ a → take w (drop b (take a d)) ≡ take w (drop b d)
@@ -112,6 +112,16 @@ module _ {A : Type 0} (from to n : ℕ) (d : List A) (apart : from + n ≤ to) (
       let room : i < length s = omega (arith, length-take-le n (drop from d) (rw length-drop (omega arith))) in
       rw (e, read, add-one) (paste-suc d to s i z (omega arith) room)
 
+  pub moved_all : moved_to n ≡ with_part to n (part from n d) d
+  moved_all = rw (take-take n n (drop from d) (omega arith)) (append_assoc (take to d) (part from n d) (drop (to + n) d))
+
+-- a part that is replaced twice
+pub with_with : {A : Type 0} (at n : ℕ) (p q s : List A) → at + n ≤ length s → length p ≡ n → with_part at n q (with_part at n p s) ≡ with_part at n q s
+with_with {A = A} at n p q s h e =
+    ap₂ (λ (x y : List A). x ++ (q ++ y))
+    (take_at (take at s) (p ++ drop (at + n) s) at (length-take-le at s (omega arith)))
+    (drop_with s at n p h e)
+
 -- a part of the list that was lent and came back as z
 pub lent_part : {A : Type 0} (at n : ℕ) (s z : List A) → take at s ++ (z ++ drop ((at + n) - at) (drop at s)) ≡ with_part at n z s
 lent_part at n s z =
@@ -143,4 +153,16 @@ cut_at at n s h = elim (dec_lt n (length s - at)) [
   | yes l ↦ let e : min n (length s - at) ≡ n = omega arith in ap (λ (k : ℕ). take k (drop at s)) e
   | no l ↦
       take_all (min n (length s - at)) (drop at s) (omega (arith, length-drop at s)) ∙ sym (take_all n (drop at s) (omega (arith, length-drop at s)))
+]
+
+pub cut : {A : Type 0} (at n start len : ℕ) (s : List A) → start ≡ min at (length s) → len ≡ min n (length s - start)
+    → take ((start + len) - start) (drop start s) ≡ take n (drop at s)
+cut at n start len s p q = elim (dec_lt (length s) at) [
+  | yes l ↦
+      let z : (start + len) - start ≡ 0 = omega arith in
+      rw z (sym (ap (take n) (drop_past at s (omega arith)) ∙ take-nil n))
+  | no l ↦
+      let e : start ≡ at = omega arith in
+      let z : (start + len) - start ≡ min n (length s - at) = omega arith in
+      rw (z, e) (cut_at at n s (omega arith))
 ]

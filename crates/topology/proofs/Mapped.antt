@@ -6,7 +6,7 @@ use mathlib.Core.List.{List, [], ◌∷◌, ◌++◌, append_assoc}
 use native.Mathlib.Omega.{arith}
 use native.Mathlib.Numerals.{add-one}
 use borrow.Author.Tests.{eqb-true, eqb-false, eq-eqb}
-use lib.ListN.{length, take, drop, get_or, set, replicate, length-append, length-set, get_or-replicate}
+use lib.ListN.{length, take, drop, get_or, set, replicate, length-append, length-drop, length-set, get_or-replicate}
 use lib.Seq.{drop-cons, get_or-take, get_or-set_same, get_or-set_other}
 use lib.Dec.{eqb}
 use Rattle.lists.proofs.Numbers.{get_or-each, count_le, count_same}
@@ -51,6 +51,9 @@ module _ (qs : List (Option ℕ)) (map₀ : List ℕ) where
   mapped_none = record { written = refl; room = refl; counted = λ q h. get_or-replicate link_limit q 0 0 h }
 
   module _ (j : ℕ) (map seen : List ℕ) (t : Mapped qs map₀ j map seen) where
+    pub mapped_length : 2 * j ≤ length map₀ → length map ≡ length map₀
+    mapped_length h = ap length t.written ∙ rw (length-append, numbered_length qs j, length-drop) (omega arith)
+
     pub seen_le : (q : ℕ) → q < link_limit → get_or seen q 0 ≤ j
     seen_le q h = rw (t.counted q h) (count_le (λ i. is_part q (part_at qs i)) j)
 
