@@ -261,6 +261,7 @@ impl<'a> Lent<'a> {
     // Both go into the fronts of the memories.
     pub fn lay(&mut self, row: &[f32], solved: &[f32; DOFS])
         ensures j { self.new.j.now ≡ overlaid self.old.j.now row.now }
+        ensures mass { self.new.mass.now ≡ self.old.mass.now }
         ensures places { SamePlaces self.old self.new }
         ensures wj { self.new.wj.now ≡ copied_part 0 0 (length row.now) self.old.wj.now solved.now }
     {
