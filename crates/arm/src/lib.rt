@@ -334,7 +334,7 @@ impl Arm {
     }
 
     // Where in a row the entry of a link's axis stands.
-    #[tactic(auto, unfolding(crate::specs::Edits::dof_at))]
+    #[tactic(auto, using(crate::proofs::Live::start_within, crate::proofs::Live::dof_count_le, crate::proofs::Live::below_three), unfolding(crate::specs::Edits::dof_at))]
     pub fn dof_at(&self, link: usize, axis: u32) -> usize
         ensures { result ≡ dof_at self.now link axis }
     {

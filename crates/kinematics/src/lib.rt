@@ -280,7 +280,8 @@ fn work_out(
             let parent = parent_before(&links[j], j);
             let above = link_above(links, parent);
             copy_parent(work, j, parent, marks, tables);
-            refresh_link(&mut links[j], above, start, &mut work[j])?;
+            let turn = refresh_link(&mut links[j], above, start, &mut work[j]);
+            turn?;
         }
         start += dofs(locked);
     }
@@ -324,7 +325,8 @@ pub fn refresh_marked(
     let count = n.min(LINKS);
     let mut new = *links;
     let mut work = [[0.0; BLOCK]; LINKS];
-    work_out(&mut new, count, marks, front, &mut work)?;
+    let worked = work_out(&mut new, count, marks, front, &mut work);
+    worked?;
     commit(&work, count, marks, front);
     *links = new;
     Ok(())

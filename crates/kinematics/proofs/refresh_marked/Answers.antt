@@ -13,16 +13,16 @@ returns-in_err-front-clause-answer c =
     (marked_short c.args.links.now c.args.n c.args.tables.now (marked c.args.marks.now)
     (front_short _ _ c.args.tables.now c.first_chunk_mut.ensures.variant (sym c.ok_or.ensures.value ∙ c.in_err-front.was)))
 
-pub returns-in_err-work_out-clause-answer : goal.returns-in_err-work_out-clause-answer
-returns-in_err-work_out-clause-answer c =
+pub returns-in_err-worked-clause-answer : goal.returns-in_err-worked-clause-answer
+returns-in_err-worked-clause-answer c =
     let front = front_found _ _ _ _ c.first_chunk_mut.ensures.cases (sym c.ok_or.ensures.value ∙ c.in_ok-front.was) in
-    rw (not_ok c.from_residual-in_err-work_out.result c.from_residual-in_err-work_out.ensures.0)
+    rw (not_ok c.from_residual-in_err-worked.result c.from_residual-in_err-worked.ensures.0)
     (rw (front_back c.args.tables.now front.enough c.in_ok-front.front.now front.same)
     (marked_no c.args.links.now c.args.n c.args.tables.now c.told-links front.enough c.in_ok-front.front.now front.same
-    c.min-count.result c.min-count.ensures c.work_out.new.work _ (marked c.args.marks.now) c.work_out.ensures.worked (ap is_ok c.in_err-work_out.was)))
+    c.min-count.result c.min-count.ensures c.work_out-worked.new.work _ (marked c.args.marks.now) c.work_out-worked.ensures.worked (ap is_ok c.in_err-worked.was)))
 
 pub returns-clause-answer : goal.returns-clause-answer
 returns-clause-answer c =
     let front = front_found _ _ _ _ c.first_chunk_mut.ensures.cases (sym c.ok_or.ensures.value ∙ c.in_ok-front.was) in
     marked_yes c.args.links.now c.args.n c.args.tables.now c.told-links front.enough c.in_ok-front.front.now front.same
-    c.min-count.result c.min-count.ensures c.work_out.new.work _ (marked c.args.marks.now) c.work_out.ensures.worked (ap is_ok c.in_ok-work_out.was) c.commit.new.tables c.commit.ensures
+    c.min-count.result c.min-count.ensures c.work_out-worked.new.work _ (marked c.args.marks.now) c.work_out-worked.ensures.worked (ap is_ok c.in_ok-worked.was) c.commit.new.tables c.commit.ensures

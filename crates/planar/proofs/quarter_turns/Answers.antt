@@ -34,3 +34,6 @@ loop-size-preserved c =
         | else-k-half-le163-via-else-k-half-le163 v ↦ omega arith
       ]
     ]
+
+pub returns : goal.returns
+returns c = omega arith
