@@ -280,6 +280,7 @@ fn work_out(
             let parent = parent_before(&links[j], j);
             let above = link_above(links, parent);
             copy_parent(work, j, parent, marks, tables);
+            // What it answers has a name, here and in `refresh_marked`, so that an edit of must-fail/ can hide it by another of that name.
             let turn = refresh_link(&mut links[j], above, start, &mut work[j]);
             turn?;
         }

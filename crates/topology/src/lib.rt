@@ -143,7 +143,7 @@ impl Split {
 // What stands in the map for part and number of the deleted link.
 pub const GONE: u8 = 255;
 
-// The part of each link, None for the deleted one, and the part count. A part is a byte, as the map has it: sixteen of them are cleared and read at once.
+// The part of each link, None for the deleted one, and the part count. A part is a byte, as the map has it, so that little is cleared and copied for a map.
 #[derive(Clone, Copy)]
 struct Parts {
     of: [Option<u8>; LINKS],
