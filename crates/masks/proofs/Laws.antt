@@ -90,7 +90,7 @@ below-le m (suc (suc (suc k))) = omega (arith, below_past m k, ap one (no_axis m
 pub below_free : (m a : ℕ) → is_free m a ≡ true → dofs_below m a < dofs_of m
 below_free m a h = omega (arith, below-le m a, ap one h)
 
--- ---- one after the other, of the three
+-- ---- as a loop counts them, of the three
 
 pub below_none : (m : ℕ) → 0 ≡ dofs_below m 0
 unfolding dofs_below
@@ -112,18 +112,3 @@ below_three m a k e = elim (dec_lt a 3) [
     past (suc zero) h = absurd (omega arith)
     past (suc (suc zero)) h = absurd (omega arith)
     past (suc (suc (suc k))) h = sym (below_past m k)
-
--- ---- axis by axis, as a match takes them
-
-pub below-first : (m a : ℕ) → a ≡ 0 → 0 ≡ dofs_below m a
-below-first m a h = rw h (below_none m)
-
-pub below-second : (m a : ℕ) {x : ℕ} → a ≡ 1 → x ≡ from_bool (is_free m 0) → x ≡ dofs_below m a
-below-second m a {x} h p = rw h (omega (arith, below_next m 0 0 x (below_none m) p))
-
-pub below-third : (m a : ℕ) {x y : ℕ} → a ≡ 2 → x ≡ from_bool (is_free m 0) → y ≡ from_bool (is_free m 1) → x + y ≡ dofs_below m a
-below-third m a {x} {y} h p q = rw h (below_next m 1 x y (below-second m 1 refl p) q)
-
-pub below_any : (m a : ℕ) {x y angle : ℕ} → 3 ≤ a → x ≡ from_bool (is_free m 0) → y ≡ from_bool (is_free m 1) → angle ≡ from_bool (is_free m 2)
-    → x + y + angle ≡ dofs_below m a
-below_any m a {x} {y} {angle} h p q r = below_next m 2 (x + y) angle (below-third m 2 refl p q) r ∙ below_three m a 3 (omega arith)

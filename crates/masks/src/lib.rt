@@ -78,19 +78,16 @@ fn free(mask: u32, axis: u32) -> bool
     Axis::try_from(axis).is_ok_and(|axis| !bit(mask, axis))
 }
 
-// `dofs_below`, of any numbers. Axis by axis: a loop over the axes takes half as long again where a list of masks is gone over.
+// `dofs_below`, of any numbers. A loop, since `filter` and `count` over the range take five times as long.
+#[tactic(auto, using(crate::proofs::Laws::below_none, crate::proofs::Laws::below_next, crate::proofs::Laws::below_three, crate::proofs::Laws::below_le_axis, crate::proofs::Laws::from_le))]
 fn free_below(mask: u32, axis: u32) -> usize
     ensures { result ≡ dofs_below mask axis }
 {
-    let x = usize::from(free(mask, 0));
-    let y = usize::from(free(mask, 1));
-    let angle = usize::from(free(mask, 2));
-    match axis {
-        0 => 0,
-        1 => x,
-        2 => x + y,
-        _ => x + y + angle,
+    let mut count = 0;
+    for below in 0..axis.min(3) {
+        count += usize::from(free(mask, below));
     }
+    count
 }
 
 // Is it one of the three axes, and free?
