@@ -143,20 +143,13 @@ impl Split {
 // What stands in the map for part and number of the deleted link.
 pub const GONE: u8 = 255;
 
-// The part of each link, None for the deleted one, and the part count. A part is a byte, as the map has it, so that little is cleared and copied for a map.
-#[derive(Clone, Copy)]
-struct Parts {
-    of: [Option<u8>; LINKS],
-    count: usize,
-}
-
-// A head opens a part; any other survivor is in its parent's.
-fn parts_of(parents: &[u8], s: Split) -> Parts
+// The part of each link, None for the deleted one, into lent memory, and the part count. Bytes, as the map has them, and lent, so that for a map little is
+// cleared and nothing copied. A head opens a part; any other survivor is in its parent's.
+fn parts_of(parents: &[u8], s: Split, of: &mut [Option<u8>; LINKS]) -> usize
     requires parents_len_bound { length parents.now ≤ link_limit }
     requires parents_value { parents_fit parents.now ≡ true }
-    ensures { (result.count ≡ part_count parents.now s) × (take (length parents.now) result.of ≡ each (length parents.now) (part_if_any parents.now s)) }
+    ensures { (result ≡ part_count parents.now s) × (take (length parents.now) of.new ≡ each (length parents.now) (part_if_any parents.now s)) }
 {
-    let mut of = [None; LINKS];
     let mut count = 0;
     for (j, p) in parents.iter().enumerate() {
         let p = *p as usize;
@@ -169,7 +162,7 @@ fn parts_of(parents: &[u8], s: Split) -> Parts
             None
         };
     }
-    Parts { of, count }
+    count
 }
 
 // Writes part and number of each of n links: a link's number is how many of its part came before it.
@@ -201,7 +194,8 @@ pub fn split_map(parents: &[u8], s: Split, map: &mut [u8]) -> Result<usize, Refu
 {
     let n = parents.len();
     refusal_of(parents, s.link(), n <= map.len() / 2)?;
-    let parts = parts_of(parents, s);
-    write_map(&parts.of, n, map);
-    Ok(parts.count)
+    let mut of = [None; LINKS];
+    let count = parts_of(parents, s, &mut of);
+    write_map(&of, n, map);
+    Ok(count)
 }

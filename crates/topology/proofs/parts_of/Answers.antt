@@ -1,16 +1,15 @@
-use Rattle.std.proofs.Common.{Option, None, List, ℕ}
+use Rattle.std.proofs.Common.{Option, List, ℕ}
 use Rattle.topology.specs.Split.{is_head}
 use mathlib.Core.Path.{◌≡◌, ◌∙◌, sym}
 use Rattle.topology.proofs.Pass.{passed_none, rank_le, parent_earlier, passed_body, passed_gone, passed_head, passed_all}
-use lib.ListN.{length, replicate}
-use Prim.Native.Nat.{◌+◌, ◌-◌, ◌<◌}
+use lib.ListN.{length}
+use Prim.Native.Nat.{◌+◌, ◌-◌, ◌≤◌, ◌<◌}
 use native.Mathlib.Omega.{arith}
-use Rattle.limits.specs.Limits.{link_limit}
 use Rattle.topology.proofs.parts_of.Goals as goal
 use Rattle.topology.proofs.parts_of.Goals.{then-is_head, else-is_head+then-is_survivor, else-is_head+else-is_survivor}
 
 pub loop-j-init : goal.loop-j-init
-loop-j-init c = passed_none c.args.parents.now c.args.s (replicate link_limit None)
+loop-j-init c = passed_none c.args.parents.now c.args.s c.args.of.now
 
 pub overflow_add-count : goal.overflow_add-count
 overflow_add-count c = omega (arith, rank_le c.args.parents.now c.args.s c.loop-j.j, c.loop-j.invariant.counted, c.requires.parents_len_bound)
@@ -33,11 +32,11 @@ loop-j-preserved c =
     let s = c.args.s in
     let j = c.loop-j.j in
     let h : j < length ps = omega arith in
-    let z : List (Option ℕ) = replicate link_limit None in
+    let z : List (Option ℕ) = c.args.of.now in
     let of = c.loop-j.of in
     let n = c.loop-j.count in
     let t = c.loop-j.invariant in
-    let few = c.requires.parents_len_bound in
+    let few : length ps ≤ length c.args.of.now = omega (arith, c.requires.parents_len_bound) in
     let head = c.is_head.ensures in
     elim c.if-is_head.branch [
       | then-is_head w ↦ let back : n + 1 - 1 ≡ n = omega arith in rw (w.of-is, w.count-is, back) (passed_head ps s z few j h of n t (sym head ∙ w.if-is_head.true))
@@ -48,4 +47,4 @@ loop-j-preserved c =
     ]
 
 pub returns : goal.returns
-returns c = passed_all c.args.parents.now c.args.s (replicate link_limit None) c.loop-j.j c.loop-j.of c.loop-j.count c.loop-j.invariant (omega arith)
+returns c = passed_all c.args.parents.now c.args.s c.args.of.now c.loop-j.j c.loop-j.of c.loop-j.count c.loop-j.invariant (omega arith)
