@@ -143,8 +143,8 @@ impl Split {
 // What stands in the map for part and number of the deleted link.
 pub const GONE: u8 = 255;
 
-// The part of each link, None for the deleted one, into lent memory, and the part count. Bytes, as the map has them, and lent, so that for a map little is
-// cleared and nothing copied. A head opens a part; any other survivor is in its parent's.
+// Writes the part of each link, None for the deleted one, into lent memory, and returns the part count. Parts are bytes, as the map has them, and lent: so
+// little is cleared for a map, and nothing copied. A head opens a part; any other survivor is in its parent's.
 fn parts_of(parents: &[u8], s: Split, of: &mut [Option<u8>; LINKS]) -> usize
     requires parents_len_bound { length parents.now ≤ link_limit }
     requires parents_value { parents_fit parents.now ≡ true }
